@@ -43,15 +43,18 @@ def table(head, rows):
     print()
 
 
+def times(runs, peers, key):
+    """A table of times: a line for each profile, a column for each of the peers, and in a cell the times for each number of rows."""
+    sizes = sorted({rows for _, rows, peer in runs if peer == peers[0][0]})
+    table(['Profile, ' + ' / '.join(f'{rows:,}' for rows in sizes) + ' rows'] + [name for _, name in peers],
+          [[profile] + [' / '.join(number(runs.get((profile, rows, peer)), key) for rows in sizes) for peer, _ in peers]
+           for profile in gen.PROFILES if any((profile, rows, peers[0][0]) in runs for rows in sizes)])
+
+
 def in_memory(one, sixteen):
-    sizes = sorted({key[1] for key in one})
-    table(['Profile', 'Rows', 'this, one session'] + [name for _, name in MEMORY],
-          [[profile, f'{rows:,}'] + [number(one.get((profile, rows, peer))) for peer, _ in [('mdloc', '')] + MEMORY]
-           for profile in gen.PROFILES for rows in sizes if (profile, rows, 'mdloc') in one])
-    table(['Profile, 16 sessions', 'Rows', 'this'] + [name for _, name in THREADS],
-          [[profile, f'{rows:,}'] + [number(sixteen.get((profile, rows, peer)), 'net') for peer, _ in [('mdloc', '')] + THREADS]
-           for profile in gen.PROFILES for rows in sizes if (profile, rows, 'mdloc') in sixteen])
-    most = sizes[-1]
+    times(one, [('mdloc', 'this, one session')] + MEMORY, 'cpu')
+    times(sixteen, [('mdloc', 'this, 16 sessions')] + THREADS, 'net')
+    most = max(rows for _, rows, _ in one)
     table(['Profile, memory in MB', 'this, one session', 'this, 16 sessions'] + [name for _, name in MEMORY],
           [[profile] + [number(runs.get((profile, most, peer)), 'rss', 1) if runs.get((profile, most, peer)) else ''
                         for runs, peer in [(one, 'mdloc'), (sixteen, 'mdloc')] + [(one, peer) for peer, _ in MEMORY]]
@@ -59,10 +62,7 @@ def in_memory(one, sixteen):
 
 
 def durable(runs):
-    keys = sorted({key[:2] for key in runs if key[2] == 'mdloc-log'})
-    table(['Profile', 'Rows', 'this'] + [name for _, name in DURABLE],
-          [[profile, f'{rows:,}'] + [number(runs.get((profile, rows, peer)), 'net') for peer, _ in [('mdloc-log', '')] + DURABLE]
-           for profile, rows in keys])
+    times(runs, [('mdloc-log', 'this, over a disk')] + DURABLE, 'net')
 
 
 if __name__ == '__main__':

@@ -3,10 +3,12 @@
 
     tools/draw_times.py [PAGE [PICTURE]]    by default docs/PERFORMANCE.md and docs/times.svg
 
-The table is the first of the page whose head begins `| Profile | Rows |`. Its other columns are programs, its entries milliseconds.
+The table is the first of the page whose head begins `| Profile, ` and names the numbers of rows, as `4,000 / 16,000 rows`. Its other
+columns are programs. A cell has the milliseconds for each number of rows, as `4.2 / 15.8`.
 """
 import math
 import pathlib
+import re
 import sys
 
 DOCS = pathlib.Path(__file__).resolve().parent.parent / 'docs'
@@ -20,15 +22,17 @@ WIDTH, HEIGHT, LEFT, TOP, ACROSS, DOWN, COLUMNS = 190, 150, 74, 84, 250, 232, 4
 def table(page):
     """The names of the programs, and for each profile its rows with the milliseconds of each program."""
     lines = page.read_text().splitlines()
-    start = next(i for i, line in enumerate(lines) if line.startswith('| Profile | Rows |'))
+    start = next(i for i, line in enumerate(lines) if line.startswith('| Profile, '))
     cells = lambda line: [cell.strip() for cell in line.strip().strip('|').split('|')]
-    programs = cells(lines[start])[2:]
+    times = lambda cell: [float(t.replace(',', '')) if t.strip() else None for t in cell.split('/')]
+    head, *programs = cells(lines[start])
+    sizes = [int(rows.replace(',', '')) for rows in re.findall(r'\d[\d,]*', head)]
     profiles = {}
     for line in lines[start + 2:]:
         if not line.startswith('|'):
             break
-        profile, rows, *times = cells(line)
-        profiles.setdefault(profile, []).append((int(rows.replace(',', '')), [float(t.replace(',', '')) if t else None for t in times]))
+        profile, *entries = cells(line)
+        profiles[profile] = list(zip(sizes, zip(*map(times, entries))))
     return programs, profiles
 
 

@@ -1,9 +1,11 @@
-// Loaded before the C library by tools/torture: refuses a request for memory, and lets calls on one file fail by a plan.
+// tools/torture loads this library before the C library. It refuses a request for memory, and makes calls on one file
+// fail by a plan.
 //
-// REFUSE is the number of the request for memory that is refused, and the file REFUSED is made then. WATCHED is the file whose calls fail,
-// PLAN says which, and TRACED is the file that gets a line for each of its calls, in their order: kind, place, bytes asked for, bytes
-// moved, error, and of a write the bytes in hexadecimal. Kinds: a open, d second handle, h lock beside others that read, x lock alone,
-// l length, p place, r read, w write, s sync, c cut.
+// REFUSE is the number of the request for memory to refuse, and the file REFUSED is created then. WATCHED is the file
+// whose calls fail, and PLAN says which of them. TRACED is the file that gets a line for each call on WATCHED, in
+// order: kind, place, bytes asked for, bytes moved, error, and for a write the bytes in hexadecimal. Kinds: a open, d
+// second handle, h shared lock (other readers may hold it too), x exclusive lock, l length, p place, r read, w write, s
+// sync, c cut.
 // A write to standard output is traced as kind o, and never fails.
 #define _GNU_SOURCE
 #include <errno.h>
@@ -18,8 +20,8 @@
 #include <sys/syscall.h>
 #include <unistd.h>
 
-// A call by its kind and its number among those of that kind. It moves no more than `most` bytes (a sync or a cut is made where that isn't
-// 0), and gives the error, or, where that is 0, how many bytes it moved.
+// A call, by its kind and its number among the calls of that kind. It moves at most `most` bytes; a sync or a cut is
+// made only if `most` isn't 0. The call fails with `error`, or, if that is 0, returns how many bytes it moved.
 struct failing { char kind; long number, most; int error; };
 static struct failing plan[16];
 static int planned;

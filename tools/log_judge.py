@@ -1,4 +1,4 @@
-"""Reads logs and answers rows after docs/FORMATS alone, and says what is wrong with what a run left: for tools/torture."""
+"""Reads logs and answers rows by docs/FORMATS.md alone, and says what is wrong with what a run left. tools/torture uses it."""
 import collections
 import copy
 import errno

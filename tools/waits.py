@@ -3,10 +3,10 @@
 
 python3 tools/waits.py PROGRAM [--seconds 2] [--runs 3] [--processors 0,1]
 
-PROGRAM is crates/benches/out/benches or crates/callers/out/callers, which `rt run` makes there; its head says what its words ask for.
-A round of the first takes the lock, holds it for about a microsecond, as a change of the store does, and puts it back; a call of the
-second moves an object, or finds the nearest 8. The program tells how many nanoseconds each took. All runs of a kind are taken
-together, and interleaved with those of the others.
+PROGRAM is crates/benches/out/benches or crates/callers/out/callers, which `rt run` builds there. The head of each
+program explains its words. A round of `benches` takes the lock, holds it for about a microsecond, as a change of the
+store does, and puts it back. A call of `callers` moves an object, or finds the nearest 8. The program prints how many
+nanoseconds each took. The table takes all runs of a kind together. The runs of the kinds are interleaved.
 """
 
 import argparse

@@ -1,12 +1,12 @@
 #!/usr/bin/env python3
-"""Walks all schedules of prompt callers at the lock of book_lock, and tells whether one sleeps for ever.
+"""Walks all schedules of prompt callers at the lock of book_lock, and prints whether one of them sleeps for ever.
 
     tools/walk_waits.py [CALLERS [ROUNDS [LOOKS [MISTAKE]]]]    by default 3 callers, 2 rounds each, no second look
 
-Each access of `take` and `put_back` to the lock's word and to `Waiters` (crates/book_lock/src/lock) is a step of its own, in the order
-that ARCHITECTURE, "Waiting", gives. With a MISTAKE one access is left out, to see that the walk finds what comes of it: `unchecked`
-(who sleeps doesn't look whether the lock is free), `kept` (who was next and takes the lock stays next) or `uncalled` (`put_back`
-calls nobody).
+Each access of `take` and `put_back` to the lock's word and to `Waiters` (crates/book_lock/src/lock) is a step of its
+own, in the order that ARCHITECTURE, "Waiting", gives. With a MISTAKE one access is left out, and the walk must find the
+consequence. The mistakes are `unchecked` (a caller that sleeps doesn't look whether the lock is free), `kept` (the next
+caller takes the lock and stays next) and `uncalled` (`put_back` calls no caller).
 """
 import sys
 from collections import deque, namedtuple

@@ -1,4 +1,4 @@
-//! Threads that take the lock in rounds: without a pause or at a pace, and beside others.
+//! Threads that take the lock in rounds, without a pause or at a pace, next to other threads.
 ghost use Rattle.std.specs.Prelude.{◌≡◌, ◌+◌, ◌<◌, ◌≤◌, false};
 ghost use Rattle.std.specs.Thread.{IsSync};
 
@@ -15,30 +15,30 @@ use std::{hint, io};
 /// How many threads take the lock, and how.
 #[derive(Clone, Copy)]
 pub(crate) struct Plan {
-    /// Threads whose rounds are counted, and timed where `tells_times` says so.
+    /// How many threads have their rounds counted. They are timed if `tells_times` is true.
     pub threads: u8,
-    /// How many rounds each of them takes.
+    /// How many rounds each of these threads takes.
     pub rounds: u32,
-    /// How long a round sleeps with the lock held, as over the sync of a file.
+    /// How long a round sleeps while it holds the lock, like a round that syncs a file.
     pub asleep: Duration,
-    /// How many short rests a round takes with the lock held.
+    /// How many spin-loop hints a round executes while it holds the lock.
     pub rests: u32,
-    /// Of each thread a round in so many microseconds. Where it is 0, there is no pause.
+    /// Each thread takes one round in this many microseconds. 0 means that it takes rounds without a pause.
     pub pause: u32,
-    /// Threads of a batch that take rounds without a pause for as long as the others are to take.
+    /// How many threads of a batch take rounds without a pause, as long as the counted threads are planned to take.
     pub batch: u8,
-    /// Other threads that do so.
+    /// How many other threads do the same.
     pub busy: u8,
     pub tells_times: bool,
 }
 
 impl Plan {
-    // When the round of this number is to begin.
+    // When the round of this number is to begin, counted from the start.
     fn due(&self, round: u32) -> Duration {
         Duration::from_micros(u64::from(self.pause).saturating_mul(u64::from(round)))
     }
 
-    // With the lock held.
+    // What a round does while it holds the lock.
     fn stay<R: Clock>(&self, rt: &R) {
         if !self.asleep.is_zero() {
             thread::sleep(rt, self.asleep);
@@ -96,7 +96,7 @@ fn tell(rt: &impl Print, times: &[Duration]) -> io::Result<()> {
     Ok(())
 }
 
-// The rounds of one thread at its pace. In the end it tells how long each took.
+// The rounds of one counted thread at its pace. At the end it prints how long each took, if it is timed.
 fn run_paced<R: Wait + Clock + Print>(
     rt: &R,
     alloc: Global,
@@ -120,7 +120,7 @@ fn run_paced<R: Wait + Clock + Print>(
     }
 }
 
-// Rounds without a pause for as long as the paced threads are to take. The clock is read for one in 64.
+// Rounds without a pause, as long as the counted threads are planned to take. The clock is read for one round of 64.
 fn run_on<R: Wait + Clock>(rt: &R, lock: &BookLock<Tally>, pass: &mut Pass<Tally>, plan: Plan)
     requires { (pass.old.lock ≡ lock.now) × (pass.old.holds ≡ false) }
     ensures { (pass.new.lock ≡ pass.old.lock) × (pass.new.holds ≡ false) × (pass.new.parts ≡ pass.old.parts) }
@@ -134,7 +134,7 @@ fn run_on<R: Wait + Clock>(rt: &R, lock: &BookLock<Tally>, pass: &mut Pass<Tally
     }
 }
 
-// The part of one thread: the first are those whose rounds are counted, then come those of a batch, and then the others.
+// What one thread does. The first threads are counted, the next are those of the batch, and the last are the others.
 fn run_as<R: Wait + Clock + Print>(
     rt: &R,
     alloc: Global,
@@ -156,7 +156,7 @@ fn run_as<R: Wait + Clock + Print>(
     }
 }
 
-// The thread of this number and those below it, all at once.
+// Runs the thread of this number and those with lesser numbers, all at once.
 fn run_all<R: Threads + Wait + Clock + Print + Sync>(
     rt: &R,
     alloc: Global,
@@ -190,7 +190,7 @@ fn run_all<R: Threads + Wait + Clock + Print + Sync>(
     lock.join_pass(pass, mine);
 }
 
-/// The threads of a plan take their rounds around one value, and it says how many it counted.
+/// Runs the threads of a plan on one value behind the lock, and prints how many rounds the value counted.
 pub(crate) fn play<R: Threads + Wait + Clock + Print + Sync>(
     rt: &R,
     alloc: Global,

@@ -1,15 +1,20 @@
-//! Measures the trie (rows moved in place, looked up and read by key, and tries shared, at leaves of a given depth), and the lock.
+//! Measures the trie and the lock.
 //!
-//! `benches DEPTH POINTS MOVES CHECKS SHARES KEPT THREADS ROUNDS MICROSECONDS RESTS PAUSE BATCH BUSY` makes 512 leaves of names of so many bits (9
-//! to 60), in which all but the last 9 bits are those of one city, and adds so many points. It then tries so many moves, checks so
-//! many rows as a move does before it, takes and lets go so many shares, and with a `KEPT` that isn't 0 keeps one share over all
-//! moves. Then so many threads take the lock at once, so many short rounds in all. Each round sleeps so long with the lock held;
-//! where it doesn't, it is a quick one, with so many short rests. With a `PAUSE` each thread takes a round in so many microseconds,
-//! and meanwhile so many threads of a batch and so many others take rounds without a pause.
+//! Usage: `benches DEPTH POINTS MOVES CHECKS SHARES KEPT THREADS ROUNDS MICROSECONDS RESTS PAUSE BATCH BUSY`.
 //!
-//! It prints counts alone, also what the value behind the lock counted, where no others took rounds: the time is read from outside,
-//! as by `perf stat` or `time`, with and without one of them. With the word `times` behind them it also prints how many nanoseconds
-//! each round took, and `tools/waits.py` makes a table of these.
+//! The trie: the program makes 512 leaves with names of DEPTH bits (9 to 60). All but the last 9 bits are those of one
+//! city. It adds POINTS points. Then it tries MOVES moves, checks CHECKS rows as a move does first, and takes and drops
+//! SHARES shares. If KEPT isn't 0, it keeps one share during all moves.
+//!
+//! The lock: THREADS threads take the lock at once, in ROUNDS rounds altogether. A round sleeps MICROSECONDS
+//! microseconds while it holds the lock. If that is 0, it is a quick round with RESTS short rests. With a PAUSE each
+//! thread takes one round in PAUSE microseconds. Meanwhile BATCH threads of a batch and BUSY others take rounds without
+//! a pause.
+//!
+//! The program prints only counts. One of them is what the value behind the lock counted, if no others took rounds. You
+//! measure the time from outside, by `perf stat` or `time`, of a run with one of the parts and a run without it. With
+//! the word `times` at the end the program also prints how many nanoseconds each round took. `tools/waits.py` makes a
+//! table of these.
 #![tactic(auto)]
 
 ghost use Rattle.std.specs.Prelude.{◌≤◌};
@@ -70,7 +75,7 @@ fn tell_lock<R: Print + Threads + Wait + Clock + Sync>(
     println!(rt; "entries {entries}")
 }
 
-// What the first six words ask of the trie.
+// The plan for the trie, from the first six words.
 fn plan_of(words: &mut Args) -> TriePlan
     ensures { result.depth ≤ 64 }
 {
@@ -84,14 +89,14 @@ fn plan_of(words: &mut Args) -> TriePlan
     }
 }
 
-// A number of threads, 64 at most.
+// A number of threads, at most 64.
 fn threads(word: Option<String>, otherwise: u64) -> u8
     ensures { result ≤ 64 }
 {
     number(word, otherwise).min(64) as u8
 }
 
-// What the other words ask of the lock.
+// The plan for the lock, from the other words.
 fn lock_plan_of(words: &mut Args) -> Plan
     ensures { (1 ≤ result.threads) × (result.threads ≤ 64) × (result.batch ≤ 64) × (result.busy ≤ 64) }
 {

@@ -1,4 +1,4 @@
-//! Points of one city, which are added and then move.
+//! Points of one city, which are added and then moved.
 ghost use Rattle.std.specs.Prelude.{◌≡◌, ◌≤◌};
 
 use crate::rows::{add, deepen, holds, one_leaf, shift};
@@ -7,7 +7,7 @@ use index_layer::Index;
 use std::alloc::Global;
 use zorder::Memory;
 
-/// What is to be done: how many of each, at leaves of so many bits.
+/// How many of each to do, on leaves with names of this many bits.
 #[derive(Drop)]
 pub(crate) struct Plan {
     pub(crate) depth: u8,
@@ -18,7 +18,8 @@ pub(crate) struct Plan {
     pub(crate) keeps: bool,
 }
 
-/// How many were done, and of how many points the rows are there at the end, and in the share that was kept.
+/// How many of each were done. The last two count the points whose rows are there at the end, in the index and in the
+/// kept share.
 #[derive(Drop)]
 pub(crate) struct Done {
     pub(crate) points: u64,
@@ -35,7 +36,7 @@ fn drawn(seed: u64) -> u64 {
         .wrapping_add(1_442_695_040_888_963_407)
 }
 
-// A key in the city of 512 leaves of so many bits.
+// A key in the city of 512 leaves with names of this many bits.
 fn key_in(draw: u64, depth: u8) -> u64 {
     let shared = depth.saturating_sub(9).min(63);
     if shared == 0 {
@@ -83,7 +84,7 @@ fn fill<I: Index>(index: &mut I, at: &mut Vec<u64>, plan: &Plan) -> Result<u64, 
     Ok(added)
 }
 
-// Moves a point that is drawn by little, most often within its leaf or to one beside it.
+// Moves a drawn point a little, most often within its leaf or to a leaf next to it.
 fn move_one<I: Index>(index: &mut I, at: &mut [u64], draw: u64) -> Result<bool, Undone> {
     let Some(place) = (draw >> 32).checked_rem(at.len() as u64) else {
         return Ok(false);
@@ -115,7 +116,7 @@ fn move_all<I: Index>(index: &mut I, at: &mut [u64], moves: u64) -> Result<u64, 
     Ok(moved)
 }
 
-// Looks rows up at random, as a move does with the row that it moves.
+// Looks up random rows, as a move does with the row that it moves.
 fn check_all<I: Index>(index: &I, at: &[u64], checks: u64) -> u64 {
     let mut seed = 44;
     let mut found = 0_u64;
@@ -160,7 +161,7 @@ fn count<I: Index>(index: &I, at: &[u64]) -> u64 {
     there
 }
 
-// A share, which is let go at once where none is to be kept.
+// A share of the index. It is dropped at once unless it is to be kept.
 fn kept_share<I: Index>(index: &I, keeps: bool) -> Option<I> {
     let share = index.share().ok()?;
     if keeps { Some(share) } else { None }
@@ -184,7 +185,7 @@ pub(crate) fn play<I: Index>(alloc: Global, plan: &Plan) -> Result<Done, Undone>
     play_over(alloc, plan, points, &mut index, &mut at)
 }
 
-// Does what the plan says of an index with so many points, which are at these keys.
+// Does what the plan says on an index with the points of these keys.
 fn play_over<I: Index>(
     alloc: Global,
     plan: &Plan,

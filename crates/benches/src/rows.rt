@@ -19,7 +19,7 @@ pub(crate) fn holds<I: Index>(index: &I, row: &Row) -> bool
     bucket.holds(row)
 }
 
-/// Adds a row where it isn't there, and answers whether it did.
+/// Adds a row if it isn't there, and returns whether it did.
 pub(crate) fn add<I: Index>(index: &mut I, row: Row) -> Result<bool, Undone> {
     if holds(index, &row) {
         return Ok(false);
@@ -30,7 +30,7 @@ pub(crate) fn add<I: Index>(index: &mut I, row: Row) -> Result<bool, Undone> {
     }
 }
 
-/// Moves a row that is there to where none is, and answers whether it did.
+/// Moves a row if it is there and its new place has none, and returns whether it did.
 pub(crate) fn shift<I: Index>(index: &mut I, from: &Row, to: Row) -> Result<bool, Undone> {
     if !holds(index, from) || holds(index, &to) {
         return Ok(false);
@@ -41,7 +41,7 @@ pub(crate) fn shift<I: Index>(index: &mut I, from: &Row, to: Row) -> Result<bool
     }
 }
 
-// A change of a row in a leaf that has no open split.
+// A change of a row in a leaf without an open split.
 fn free(row: Row) -> RowChange
     ensures { result.row ≡ row }
 {
@@ -57,12 +57,12 @@ fn empty(alloc: Global) -> Result<Arc<Bucket>, Memory>
     Bucket::from_rows(alloc, &[])?.into_shared()
 }
 
-/// An index of one leaf, with no rows.
+/// An index of one leaf, without rows.
 pub(crate) fn one_leaf<I: Index>(alloc: Global) -> Result<I, Memory> {
     I::whole(alloc, empty(alloc)?)
 }
 
-// Splits the leaf of a key where it has fewer bits than are wanted. Its rows are left out.
+// Splits the leaf of a key if its name has less than `depth` bits. The leaf's rows are left out.
 fn split_once<I: Index>(alloc: Global, index: &mut I, key: u64, depth: u8) -> Result<(), Undone>
     requires width { I.WIDTH ≡ 1 }
     requires most { depth ≤ 64 }
@@ -75,7 +75,7 @@ fn split_once<I: Index>(alloc: Global, index: &mut I, key: u64, depth: u8) -> Re
     index.divide(&name, &children, &mut AtOnce)
 }
 
-/// Splits the leaf of a key until it has as many bits as are wanted. Its rows are left out.
+/// Splits the leaf of a key until its name has `depth` bits. The leaf's rows are left out.
 pub(crate) fn deepen<I: Index>(
     alloc: Global,
     index: &mut I,

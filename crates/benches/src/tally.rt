@@ -1,4 +1,4 @@
-//! A value that counts its entries, all of which are one call.
+//! A value that counts entries, all of which are the same call.
 ghost use Rattle.std.specs.Prelude.{◌≡◌, [], ◌∷◌, ◌++◌, replicate, MatchBool};
 ghost use Rattle.benches.specs.Tally.{one_find};
 
@@ -27,7 +27,7 @@ impl Held for Tally {
 }
 
 impl Tally {
-    /// One of no entries, whose rounds are slow or quick.
+    /// A tally without entries. `is_slow` says whether its rounds are slow or quick.
     pub fn new(is_slow: bool) -> Tally
         ensures { result.finds ≡ 0 }
     {
@@ -40,7 +40,7 @@ impl Tally {
         self.finds
     }
 
-    // Counts one more, unless the number is full.
+    // Counts one more, unless the count is at its limit. Returns whether it did.
     pub(crate) fn add(&mut self) -> bool
         ensures { MatchBool result (replicate self.new.finds one_find ≡ replicate self.old.finds one_find ++ one_find ∷ [])
             (self.new ≡ self.old) }

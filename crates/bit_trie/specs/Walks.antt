@@ -1,4 +1,4 @@
--- Walks down a trie by which no row is passed.
+-- Walks down a trie that skip no row.
 use Rattle.std.specs.Prelude.{◌≡◌, ℕ, Bool, false, List, [], ◌++◌, Some}
 use Rattle.std.specs.List.{starts_with, AllByRecursion}
 use mathlib.Core.Bool.{beq}
@@ -6,18 +6,18 @@ use Rattle.zorder.specs.Bits.{low_bits}
 use Rattle.index_layer.specs.Leaves.{Leaf}
 use Rattle.bit_trie.specs.Tries.{Trie, leaves_under, reach}
 
--- a path that the last bits of two keys both take, what it leads to, and how many of their bits are left there
+-- the last bits of two keys begin with the same path, which leads to u and leaves `rest` bits of each
 pub record Agrees (from to left rest : ℕ) (t u : Trie) : Type 0 where
   pub path : List Bool
   pub from_is : low_bits left from ≡ path ++ low_bits rest from
   pub to_is : low_bits left to ≡ path ++ low_bits rest to
   pub at : reach path t ≡ Some u
 
--- leaves whose names don't begin with this one have no rows
+-- leaves whose names don't begin with this name have no rows
 abbrev pub AreBareBeside : List Bool → List Leaf → Type 0
 AreBareBeside below leaves = AllByRecursion (λ (l : Leaf). starts_with beq l.name below ≡ false → l.bucket.rows ≡ []) leaves
 
--- a path from one trie to another one below it, which has all its rows
+-- a path from one trie to a trie below it that has all its rows
 pub record Narrows (name below : List Bool) (t u : Trie) : Type 0 where
   pub path : List Bool
   pub named : below ≡ name ++ path

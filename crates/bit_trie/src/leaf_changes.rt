@@ -1,6 +1,6 @@
-//! The changes of a leaf's bucket, in which each way down a trie ends.
+//! Changes of a leaf's bucket, with which each way down a trie ends.
 //!
-//! They stay out of the ways down, which are loops without them.
+//! They are functions of their own, so that the compiler turns the recursion down a trie into a loop.
 ghost use Rattle.std.specs.Prelude.{◌≡◌, ◌+◌, true, false, length, IfOk, OnOk, OnErr};
 ghost use Rattle.std.specs.Arc.{arc_value};
 ghost use Rattle.bucket_versions.specs.Rows.{has_row, without_row, after_put, after_gone};
@@ -11,23 +11,24 @@ use crate::told::in_order;
 use bucket_versions::{Bucket, Commit, RowChange, Undone, pass, put, shift, take};
 use std::sync::Arc;
 
-/// A row that is to go, and how that ended.
+/// A row to remove, and the result.
 ///
-/// The ways down to a leaf answer here: they would be no loops if they gave it back.
+/// The functions that go down to a leaf store their result here. If they returned it, the compiler could not turn them
+/// into loops.
 #[derive(Drop)]
 pub struct Going {
     /// The row, and whether its bucket keeps its base.
     pub change: RowChange,
-    /// Whether it went; until a leaf is reached, what it is made with.
+    /// Whether the row was removed. Until a leaf is reached, this is the value with which the struct was created.
     pub ended: Result<(), Undone>,
 }
 
-/// A row that is to come, and how that ended: with how many rows are there then.
+/// A row to add, and the result: the new number of rows in its leaf.
 #[derive(Drop)]
 pub struct Coming {
     /// The row, and whether its bucket keeps its base.
     pub change: RowChange,
-    /// Whether it came; until a leaf is reached, what it is made with.
+    /// Whether the row was added. Until a leaf is reached, this is the value with which the struct was created.
     pub ended: Result<u64, Undone>,
 }
 
@@ -45,7 +46,7 @@ pub fn put_there<C: Commit>(leaf: &mut Arc<Bucket>, to: &mut Coming, commit: &mu
     to.ended = put(leaf, to.change, commit);
 }
 
-/// Takes a row out of a leaf's bucket, once the step has succeeded.
+/// Removes a row from a leaf's bucket, once the step has succeeded.
 #[inline(never)]
 pub fn take_there<C: Commit>(leaf: &mut Arc<Bucket>, from: &mut Going, commit: &mut C)
     requires can { C.can commit.old }
@@ -59,7 +60,7 @@ pub fn take_there<C: Commit>(leaf: &mut Arc<Bucket>, from: &mut Going, commit: &
     from.ended = take(leaf, from.change, commit);
 }
 
-/// Takes a row out of a leaf's bucket and adds another one, once the step has succeeded.
+/// Removes a row from a leaf's bucket and adds another one, once the step has succeeded.
 #[inline(never)]
 pub fn shift_there<C: Commit>(
     leaf: &mut Arc<Bucket>,
@@ -80,7 +81,7 @@ pub fn shift_there<C: Commit>(
     to.ended = shift(leaf, *from, to.change, commit);
 }
 
-/// Takes a row out of a leaf's bucket and adds one to another leaf's, once the step has succeeded.
+/// Removes a row from a leaf's bucket and adds one to another leaf's bucket, once the step has succeeded.
 #[inline(never)]
 pub fn pass_there<C: Commit>(
     leaf: &mut Arc<Bucket>,

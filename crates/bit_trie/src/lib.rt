@@ -1,13 +1,16 @@
-//! Binary tries of buckets: what each index that is a trie stands on.
+//! Binary tries of buckets: what all indexes that are tries have in common.
 //!
-//! A `Trie` is what contracts see of an index's nodes: a bucket, or what is under the next bit 0 and under the next bit 1. Its leaves in
-//! the order of their keys, the leaf and the part that a path leads to, and the trie with a part in the place of a leaf or with one bucket
-//! changed are defined by the bits of a path; the lemmas say what each change is to the list of leaves. A node that stands for more than
-//! one bit is seen as a trie of that depth. Whatever the nodes are, a way down reads its key by `next_bit`, and ends in `put_there`,
-//! `take_there`, `shift_there` or `pass_there`, which change a leaf's bucket in place. `in_range`, `in_order` and `at_once` tell what is
-//! known anyway.
+//! Contracts see the nodes of an index as a `Trie`: a bucket, or one trie for the next bit 0 and one for the next bit
+//! 1. A node of more than one bit is seen as a trie of that depth. The definitions go by the bits of a path: the leaves
+//! in the order of their keys, what a path leads to, a trie with a leaf replaced, and a trie with one bucket changed.
+//! The lemmas say how each change acts on the list of leaves.
 //!
-//! Not here: nodes and the ways down them (`kd_trie`, `quad_trie`), and what an index's calls promise of its leaves (`index_layer`).
+//! Whatever the nodes are, a way down reads its key by `next_bit`. It ends in `put_there`, `take_there`, `shift_there`
+//! or `pass_there`, which change a leaf's bucket in place. `in_range`, `in_order` and `at_once` state facts for the
+//! prover.
+//!
+//! Not here: nodes and the ways down them (`kd_trie`, `quad_trie`), and what an index promises about its leaves
+//! (`index_layer`).
 #![tactic(auto)]
 
 mod keys;

@@ -1,4 +1,4 @@
--- What rows and a base stand for.
+-- The base and the rows that a bucket's content represents.
 use Rattle.std.specs.Prelude.{◌≡◌, Bool, true, false, List, if◌then◌else◌, ⊤}
 use Rattle.std.specs.Arc.{arc_value}
 use Rattle.bucket_versions.specs.declared.row.Row.{Row}
@@ -15,7 +15,7 @@ base_in Own rows = listed rows
 base_in Below rows = rows_under rows.under
 base_in (Beside base) rows = (arc_value base).items
 
--- whether the rows are the base too
+-- whether the rows are their own base
 abbrev pub is_own : Base → Bool
 is_own Own = true
 is_own Below = false
@@ -28,16 +28,16 @@ kept_in base rows = record { base = base_in base rows; rows = listed rows }
 abbrev pub kept : Content → Rows
 kept c = kept_in c.base c.rows
 
--- base and rows rise
+-- base and rows are in order
 pub record AreKept (c : Content) : Type 0 where
   pub base : IsRows (base_in c.base c.rows)
   pub rows : IsRowList c.rows
 
--- the base stands apart where it is to be kept
+-- the base is stored apart if the change keeps it
 abbrev pub IsReady : Bool → Base → Type 0
 IsReady true base = is_own base ≡ false
 IsReady false base = ⊤
 
--- the base that is kept, or else the rows'
+-- the base after a change: the same if it is kept, and else the rows themselves
 abbrev pub settled : Bool → Base → Base
 settled keeps base = if keeps then base else Own

@@ -11,7 +11,7 @@ put_between : with_row (row 2 4) (row 1 9 ∷ row 27 7 ∷ []) ≡ row 1 9 ∷ r
 unfolding row
 put_between = refl
 
--- of two rows with one key the lesser id comes first
+-- of two rows with the same key, the lesser id comes first
 put_by_id : with_row (row 1 4) (row 1 9 ∷ []) ≡ row 1 4 ∷ row 1 9 ∷ []
 unfolding row
 put_by_id = refl
@@ -20,7 +20,7 @@ is_there : has_row (row 27 7) (row 1 9 ∷ row 27 7 ∷ []) ≡ true
 unfolding row
 is_there = refl
 
--- another id at the key of a row is another row
+-- a row with the same key and another id is another row
 is_not_there : has_row (row 27 9) (row 1 9 ∷ row 27 7 ∷ []) ≡ false
 unfolding row
 is_not_there = refl

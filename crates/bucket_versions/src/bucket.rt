@@ -1,4 +1,4 @@
-//! A bucket: rows in order, and the base that they came from.
+//! A bucket: its rows in order, and the base that they came from.
 ghost use Rattle.std.specs.Prelude.{◌≡◌, ◌+◌, ◌↔◌, length, false, IfOk, IsTrue, IsErrOf};
 ghost use Rattle.std.specs.Arc.{arc_value};
 ghost use Rattle.bucket_versions.specs.Rows.{IsRows, AreRows, has_row, same_rows, as_base, with_rows, put_row, gone_row, rows_over, rows_between};
@@ -21,12 +21,12 @@ use std::sync::ledger::Ledger;
 use step_count::Steps;
 use zorder::Memory;
 
-/// Why a row wasn't put or taken out.
+/// Why a row was not added or removed.
 #[derive(Clone, Copy, Debug, PartialEq, Eq)]
 pub enum BucketFault {
-    /// The row that was to be put is there.
+    /// The row to add is already there.
     Present,
-    /// The row that was to be taken out isn't there.
+    /// The row to remove isn't there.
     Absent,
     /// Memory ran out.
     Memory,
@@ -42,9 +42,10 @@ impl From<Memory> for BucketFault {
     }
 }
 
-/// Rows in order, none twice, and those that were there when it was last folded.
+/// The rows of one leaf in order, none twice, and its base: the rows at the moment when the bucket was last folded.
 ///
-/// Mostly its rows are their own base, in one list. A base that is kept while rows change stands apart, and versions share it.
+/// Mostly the rows are their own base, in one list. A base that is kept while rows change is stored apart, and versions
+/// share it.
 #[derive(Drop)]
 pub struct Bucket {
     alloc: Global,
@@ -66,7 +67,7 @@ impl Model for Bucket {
 impl Clone for Bucket {
     ghost is_clone = { λ b copy. copy ≡ b };
 
-    // An equal bucket, with a list of its own. A base that stands apart is shared.
+    // Copies the bucket. The copy has a list of its own, and shares a base that is stored apart.
     fn clone(&self) -> Result<Bucket, AllocError> {
         let content = self.content.share(self.alloc)?;
         Ok(Bucket {
@@ -77,7 +78,7 @@ impl Clone for Bucket {
 }
 
 impl Bucket {
-    /// A bucket of these rows, which are its base too.
+    /// Creates a bucket with a copy of these rows, in order. They are its base too.
     pub fn from_rows(alloc: Global, rows: &[Row]) -> Result<Bucket, Memory>
         requires { IsRows rows.now }
         ensures { IfOk result (λ b. b ≡ as_base rows.now) }
@@ -85,7 +86,7 @@ impl Bucket {
         Ok(Bucket::from_vec(alloc, Vec::from_slice(alloc, rows)?))
     }
 
-    /// The same of a list that is there: it takes no memory.
+    /// Creates a bucket of this list, without taking memory.
     pub fn from_vec(alloc: Global, rows: Vec<Row>) -> Bucket
         requires { IsRows rows.items }
         ensures { result ≡ as_base rows.items }
@@ -96,7 +97,7 @@ impl Bucket {
         }
     }
 
-    /// The bucket with one row more, on the same base.
+    /// Returns the bucket with one more row, on the same base.
     pub fn with_put(&self, row: Row) -> Result<Bucket, BucketFault>
         ensures ok { IfOk result (λ b. b ≡ put_row row self.now) }
         ensures present { IsErrOf result BucketFault.Present ↔ IsTrue (has_row row self.now.rows) }
@@ -108,7 +109,7 @@ impl Bucket {
         Ok(self.turned(row)?)
     }
 
-    /// The bucket without one of its rows, on the same base.
+    /// Returns the bucket without one of its rows, on the same base.
     pub fn with_gone(&self, row: Row) -> Result<Bucket, BucketFault>
         ensures ok { IfOk result (λ b. b ≡ gone_row row self.now) }
         ensures absent { IsErrOf result BucketFault.Absent ↔ (has_row row self.now.rows ≡ false) }
@@ -120,7 +121,7 @@ impl Bucket {
         Ok(self.turned(row)?)
     }
 
-    // The bucket without a row where it is there, and with it where it isn't, on the same base.
+    // Returns the bucket with the row toggled: removed if it was there, else added. The base is the same.
     fn turned(&self, row: Row) -> Result<Bucket, Memory>
         ensures { IfOk result (λ b. b ≡ with_rows (turn row self.now.rows) self.now) }
     {
@@ -132,7 +133,7 @@ impl Bucket {
         })
     }
 
-    // The bucket with its rows as base.
+    // Returns the bucket with its rows as base.
     fn with_own_base(&self) -> Result<Bucket, Memory>
         ensures { IfOk result (λ b. b ≡ as_base self.now.rows) }
     {
@@ -140,7 +141,7 @@ impl Bucket {
         Ok(Bucket::from_vec(self.alloc, merged(self.alloc, base, delta)?))
     }
 
-    /// The bucket on its base where that is kept, and else with its rows as base.
+    /// Returns the bucket unchanged if `keeps_base`, and else with its rows as base.
     pub fn settled(self, keeps_base: bool) -> Result<Bucket, Memory>
         ensures { IfOk result (λ b. b ≡ rows_over keeps_base self.rows self) }
     {
@@ -151,7 +152,7 @@ impl Bucket {
         }
     }
 
-    /// A bucket of the rows of the base with keys from `lo` to `hi`.
+    /// Returns a bucket of those rows of the base whose keys are from `lo` to `hi`.
     pub fn cut(&self, lo: u64, hi: u64) -> Result<Bucket, Memory>
         ensures { IfOk result (λ b. b ≡ as_base (rows_between lo hi self.now.base)) }
     {
@@ -159,7 +160,7 @@ impl Bucket {
         cut_out(self.alloc, base, delta, lo, hi)
     }
 
-    // A bucket of the rows with keys from `lo` to `hi`.
+    // Returns a bucket of those rows whose keys are from `lo` to `hi`.
     fn cut_now(&self, lo: u64, hi: u64) -> Result<Bucket, Memory>
         ensures { IfOk result (λ b. b ≡ as_base (rows_between lo hi self.now.rows)) }
     {
@@ -167,14 +168,14 @@ impl Bucket {
         cut_out(self.alloc, base, delta, lo, hi)
     }
 
-    /// This bucket, under a pointer that indexes share.
+    /// Moves the bucket behind a pointer that indexes can share.
     pub fn into_shared(self) -> Result<Arc<Bucket>, Memory>
         ensures { IfOk result (λ b. arc_value b ≡ self) }
     {
         Ok(Arc::new(self.alloc, self)?)
     }
 
-    /// Whether both have the same base.
+    /// Returns whether both buckets have the same base.
     pub fn has_base_of(&self, other: &Bucket) -> bool
         ensures { result ≡ same_rows self.now.base other.now.base }
     {
@@ -186,21 +187,21 @@ impl Bucket {
         )
     }
 
-    // Whether the rows are their own base, as its form tells.
+    // Returns true if the form shows that the rows are their own base. False says nothing.
     fn is_own_base(&self) -> bool
         ensures { IsTrue result → self.now ≡ as_base self.now.rows }
     {
         self.content.is_own_base()
     }
 
-    // Whether no row with a key from `lo` to `hi` came or went, as its form tells.
+    // Returns true if the form shows that no row with a key from `lo` to `hi` was added or removed. False says nothing.
     fn is_as_cut(&self, lo: u64, hi: u64) -> bool
         ensures { IsTrue result → rows_between lo hi self.now.rows ≡ rows_between lo hi self.now.base }
     {
         self.content.is_as_cut(lo, hi)
     }
 
-    /// How many rows there are.
+    /// Returns the number of rows.
     pub fn count(&self) -> u64
         ensures count { result ≡ length self.now.rows }
         ensures in_order { AreRows self.now }
@@ -208,14 +209,15 @@ impl Bucket {
         self.content.count()
     }
 
-    /// How many rows stand in exactly one of the base and the rows: so a put that is taken back counts for nothing.
+    /// Returns how many rows are in exactly one of the base and the rows. A row that is added and removed again doesn't
+    /// count.
     pub fn delta_len(&self) -> u64
         ensures { result ≡ delta_len self.now }
     {
         self.content.delta_len()
     }
 
-    // Two lists whose difference the rows are.
+    // Returns two lists whose symmetric difference is the rows.
     fn parts(&self) -> (&[Row], &[Row])
         ensures rows { difference result.0.now result.1.now ≡ self.now.rows }
         ensures in_order { AreParts result.0.now result.1.now }
@@ -224,7 +226,7 @@ impl Bucket {
         self.content.parts()
     }
 
-    // Two lists whose difference the base is.
+    // Returns two lists whose symmetric difference is the base.
     fn base_parts(&self) -> (&[Row], &[Row])
         ensures rows { difference result.0.now result.1.now ≡ self.now.base }
         ensures in_order { AreParts result.0.now result.1.now }
@@ -240,7 +242,8 @@ impl Bucket {
         BucketRows::over(base, delta)
     }
 
-    /// The rows in order, one after the other: one merge, which takes no memory. To begin is one step, however many are taken.
+    /// Returns an iterator over the rows in order. It merges two lists and takes no memory. The call counts as one
+    /// step, however many rows the caller takes.
     pub fn rows<L: Ledger>(&self, steps: &mut Steps<L>) -> BucketRows<'_>
         ensures rows { result ≡ self.now.rows }
         ensures steps { steps.new ≡ steps.old + 1 }
@@ -250,7 +253,7 @@ impl Bucket {
         self.walk()
     }
 
-    /// Whether a row is there.
+    /// Returns whether a row is there.
     pub fn holds(&self, row: &Row) -> bool
         ensures { result ≡ has_row row.now self.now.rows }
     {
@@ -259,7 +262,7 @@ impl Bucket {
     }
 }
 
-// A bucket of the rows of two lists with keys from `lo` to `hi`.
+// Returns a bucket of those rows of `base` and `delta` whose keys are from `lo` to `hi`.
 fn cut_out(alloc: Global, base: &[Row], delta: &[Row], lo: u64, hi: u64) -> Result<Bucket, Memory>
     requires { AreParts base.now delta.now }
     ensures { IfOk result (λ b. b ≡ as_base (rows_between lo hi (difference base.now delta.now))) }

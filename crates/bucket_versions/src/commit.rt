@@ -1,28 +1,29 @@
-//! The step that a change of an index waits for.
+//! The step for which a change of an index waits.
 ghost use Rattle.std.specs.Prelude.{◌≡◌, ⊤, IsTrue, IsFalse};
 
 use std::alloc::AllocError;
 use zorder::Memory;
 
-/// A step that may fail, as the append of a record. Who is handed one takes it when all memory is there, and before anything changes.
+/// A step that may fail, such as the append of a record. A function with a step takes it once all memory is there, and
+/// before it changes anything.
 pub trait Commit {
-    /// What it needs.
+    /// What the step requires.
     ghost can: { Self → Type 0 };
 
-    /// What succeeding makes of it.
+    /// How a step that succeeds changes the value.
     ghost done: { Self → Self → Type 0 };
 
-    /// What failing makes of it.
+    /// How a step that fails changes the value.
     ghost lost: { Self → Self → Type 0 };
 
-    /// Takes the step, and answers whether it succeeded.
+    /// Takes the step, and returns whether it succeeded.
     fn commit(&mut self) -> bool
         requires { can self.old }
         ensures done { IsTrue result → done self.old self.new }
         ensures lost { IsFalse result → lost self.old self.new };
 }
 
-/// No step: a change that waits for nothing.
+/// A step that always succeeds, for a change that waits for nothing.
 #[derive(Clone, Copy, Debug)]
 pub struct AtOnce;
 
@@ -38,7 +39,7 @@ impl Commit for AtOnce {
     }
 }
 
-/// Why nothing was changed.
+/// Why a change was not made. Nothing was changed.
 #[derive(Clone, Copy, Debug, PartialEq, Eq)]
 pub enum Undone {
     /// The step failed.

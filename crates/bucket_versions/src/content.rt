@@ -1,10 +1,10 @@
-//! What a bucket keeps: its rows, and a base that they are themselves or that stands apart from them.
+//! The content of a bucket: its rows, and its base, which is the rows themselves or is stored apart.
 ghost use Rattle.std.specs.Prelude.{◌≡◌, ◌<◌, false, true, length, IfOk, OnOk, OnErr, IsTrue};
 ghost use Rattle.std.specs.Arc.{arc_value};
 ghost use Rattle.bucket_versions.specs.declared.content.Base.{Base};
 ghost use Rattle.bucket_versions.specs.Rows.{IsRows, has_row, as_base, with_rows, rows_over, rows_between, after_put};
 ghost use Rattle.bucket_versions.specs.Delta.{AreParts, delta_len, difference, turn, after_turn};
-ghost use Rattle.bucket_versions.specs.RowList.{HasRoom};
+ghost use Rattle.bucket_versions.specs.RowList.{HasRoom, is_full};
 ghost use Rattle.bucket_versions.specs.Content.{kept, AreKept, is_own, IsReady, settled};
 ghost use Rattle.bucket_versions.specs.Told.{Told};
 
@@ -18,18 +18,18 @@ use std::alloc::{AllocError, Global};
 use std::sync::Arc;
 use zorder::Memory;
 
-/// Where the base of a bucket is.
+/// Where the base of a bucket is stored.
 #[derive(Drop)]
 pub(crate) enum Base {
     /// The rows are their own base.
     Own,
-    /// It is what stands below the list of rows.
+    /// The base is the shared list below the list of rows.
     Below,
-    /// It stands beside the rows.
+    /// The base is a list of its own.
     Beside(Arc<Vec<Row>>),
 }
 
-/// Rows in order, and a base.
+/// Rows in order, and their base.
 #[derive(Drop)]
 pub(crate) struct Content {
     pub(crate) base: Base,
@@ -37,7 +37,7 @@ pub(crate) struct Content {
 }
 
 impl Content {
-    /// Rows that are their own base.
+    /// Creates the content of rows that are their own base.
     pub(crate) fn new(list: Vec<Row>) -> Content
         requires { IsRows list.items }
         ensures rows { kept result ≡ as_base list.items }
@@ -49,7 +49,7 @@ impl Content {
         }
     }
 
-    /// Two lists whose difference the rows are.
+    /// Returns two lists whose symmetric difference is the rows.
     pub(crate) fn parts(&self) -> (&[Row], &[Row])
         requires { AreKept self.now }
         ensures rows { difference result.0.now result.1.now ≡ (kept self.now).rows }
@@ -58,7 +58,7 @@ impl Content {
         self.rows.parts()
     }
 
-    /// Two lists whose difference the base is.
+    /// Returns two lists whose symmetric difference is the base.
     pub(crate) fn base_parts(&self) -> (&[Row], &[Row])
         requires { AreKept self.now }
         ensures rows { difference result.0.now result.1.now ≡ (kept self.now).base }
@@ -71,14 +71,15 @@ impl Content {
         }
     }
 
-    /// Whether the rows are their own base, as its form tells.
+    /// Returns true if the form shows that the rows are their own base. False says nothing.
     pub(crate) fn is_own_base(&self) -> bool
         ensures { IsTrue result → kept self.now ≡ as_base (kept self.now).rows }
     {
         matches!(self.base, Base::Own)
     }
 
-    /// Whether no row with a key from `lo` to `hi` came or went, as its form tells: rows beside a base tell it of none.
+    /// Returns true if the form shows that no row with a key from `lo` to `hi` was added or removed. False says
+    /// nothing, and is the result for each base that is a list of its own.
     pub(crate) fn is_as_cut(&self, lo: u64, hi: u64) -> bool
         requires { AreKept self.now }
         ensures { IsTrue result → rows_between lo hi (kept self.now).rows ≡ rows_between lo hi (kept self.now).base }
@@ -111,7 +112,8 @@ impl Content {
         }
     }
 
-    /// The same, with a list of its own. What stands below it is shared, and so is a base that stands apart.
+    /// Copies the content. The copy has a list of its own, and shares the list below it and a base that is stored
+    /// apart.
     pub(crate) fn share(&self, alloc: Global) -> Result<Content, AllocError>
         requires { AreKept self.now }
         ensures same { IfOk result (λ c. kept c ≡ kept self.now) }
@@ -126,7 +128,7 @@ impl Content {
         Ok(Content { base, rows })
     }
 
-    // Puts the base apart from the rows, so that it stays when these change.
+    // Stores the base apart from the rows, so that it stays when the rows change.
     fn part_base(&mut self, alloc: Global) -> Result<(), Memory>
         requires { AreKept self.old }
         ensures same { kept self.new ≡ kept self.old }
@@ -140,13 +142,14 @@ impl Content {
         Ok(())
     }
 
-    // Makes room for two rows more. A base that stands below the rows is then beside them, if the list gives way.
+    // Makes room for two more rows. If the list gives way, a base below the rows becomes a list of its own.
     fn make_room(&mut self, alloc: Global) -> Result<(), Memory>
         requires { AreKept self.old }
         ensures same { kept self.new ≡ kept self.old }
         ensures in_order { AreKept self.new }
         ensures own { is_own self.new.base ≡ is_own self.old.base }
-        ensures ok { OnOk result (HasRoom 2 self.new.rows) }
+        ensures stays { is_full self.old.rows ≡ false → self.new ≡ self.old }
+        ensures ok { OnOk result ((is_full self.new.rows ≡ false) × HasRoom 2 self.new.rows) }
     {
         if !self.rows.is_full() {
             return Ok(());
@@ -157,12 +160,12 @@ impl Content {
         self.rows.renew(alloc)
     }
 
-    // Makes ready for a change that keeps the base or doesn't.
+    // Prepares for a change that keeps the base or doesn't.
     fn make_ready(&mut self, alloc: Global, keeps_base: bool) -> Result<(), Memory>
         requires { AreKept self.old }
         ensures same { kept self.new ≡ kept self.old }
         ensures in_order { AreKept self.new }
-        ensures ok { OnOk result (IsReady keeps_base self.new.base × HasRoom 2 self.new.rows) }
+        ensures ok { OnOk result (IsReady keeps_base self.new.base × ((is_full self.new.rows ≡ false) × HasRoom 2 self.new.rows)) }
     {
         if keeps_base {
             self.part_base(alloc)?;
@@ -170,7 +173,7 @@ impl Content {
         self.make_room(alloc)
     }
 
-    // Makes the rows their own base, where the base isn't kept.
+    // Makes the rows their own base, unless the base is kept.
     fn settle(&mut self, keeps_base: bool)
         ensures { self.new ≡ record self.old { base = settled keeps_base self.old.base } }
     {
@@ -179,7 +182,7 @@ impl Content {
         }
     }
 
-    /// Turns a row on the same base.
+    /// Toggles a row on the same base.
     pub(crate) fn turn_apart(&mut self, alloc: Global, row: Row) -> Result<(), Memory>
         requires { AreKept self.old }
         ensures ok { OnOk result (kept self.new ≡ with_rows (turn row (kept self.old).rows) (kept self.old)) }
@@ -192,7 +195,7 @@ impl Content {
         }
     }
 
-    /// Turns a row, once the step has succeeded.
+    /// Toggles a row, once the step has succeeded.
     pub(crate) fn turn<C: Commit>(
         &mut self,
         alloc: Global,
@@ -214,7 +217,7 @@ impl Content {
         Ok(())
     }
 
-    /// Turns one row and then another, once the step has succeeded.
+    /// Toggles one row and then another, once the step has succeeded.
     pub(crate) fn turn_two<C: Commit>(
         &mut self,
         alloc: Global,
@@ -237,7 +240,7 @@ impl Content {
         Ok(())
     }
 
-    /// Turns a row, and adds one to a bucket, once the step has succeeded.
+    /// Toggles a row, and adds one to another bucket, once the step has succeeded.
     pub(crate) fn hand_over<C: Commit>(
         &mut self,
         alloc: Global,

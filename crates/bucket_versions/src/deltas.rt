@@ -1,4 +1,4 @@
-//! The rows of a base and a delta.
+//! The rows of a base and a delta. A row of the delta that is in the base is removed, and any other row of it is added.
 ghost use Rattle.std.specs.Prelude.{◌≡◌, ◌<◌, ◌+◌, ◌^◌, ◌∷◌, ◌++◌, List, length, IfOk};
 ghost use Rattle.bucket_versions.specs.declared.row.Row.{Row};
 ghost use Rattle.bucket_versions.specs.Rows.{IsRows, same_rows, has_row};
@@ -9,7 +9,7 @@ use crate::row::Row;
 use crate::walk::BucketRows;
 use std::alloc::{AllocError, Global};
 
-/// The rows of a base and a delta, in a list of their own. What lies between two rows of the delta is copied at once.
+/// Copies the rows of a base and a delta into one list. All rows between two rows of the delta are copied at once.
 pub(crate) fn merged(alloc: Global, base: &[Row], delta: &[Row]) -> Result<Vec<Row>, AllocError>
     requires { AreParts base.now delta.now }
     ensures { IfOk result (λ v. v.items ≡ difference base.now delta.now) }
@@ -23,7 +23,7 @@ pub(crate) fn merged(alloc: Global, base: &[Row], delta: &[Row]) -> Result<Vec<R
     Ok(all)
 }
 
-// Adds the rows that come before a turned one, and that one where it isn't among them, and gives those behind it.
+// Appends the rows before `turned`, and `turned` if it isn't among them. Returns the rows after it.
 fn push_run<'a>(all: &mut Vec<Row>, rest: &'a [Row], turned: &Row) -> Result<&'a [Row], AllocError>
     requires { IsRows rest.now }
     ensures rows { IfOk result (λ left. (delta : List Row) → all.new.items ++ difference left.now delta ≡ all.old.items ++ difference rest.now (turned.now ∷ delta)) }
@@ -42,7 +42,7 @@ fn push_run<'a>(all: &mut Vec<Row>, rest: &'a [Row], turned: &Row) -> Result<&'a
     }
 }
 
-/// Whether two walks give the same rows.
+/// Returns whether two iterators return the same rows.
 pub(crate) fn are_same(mut rows: BucketRows<'_>, mut others: BucketRows<'_>) -> bool
     ensures { result ≡ same_rows rows.entry others.entry }
 {
@@ -55,7 +55,7 @@ pub(crate) fn are_same(mut rows: BucketRows<'_>, mut others: BucketRows<'_>) -> 
     others.next().is_none()
 }
 
-/// Whether a row is among those of a base and a delta.
+/// Returns whether a row is among those of a base and a delta.
 pub(crate) fn holds(base: &[Row], delta: &[Row], row: &Row) -> bool
     requires { AreParts base.now delta.now }
     ensures { result ≡ has_row row.now (difference base.now delta.now) }
@@ -64,7 +64,7 @@ pub(crate) fn holds(base: &[Row], delta: &[Row], row: &Row) -> bool
     in_base != place_of(delta, row).is_ok()
 }
 
-/// How many rows stand in exactly one of a base and so many rows of two other lists.
+/// Returns how many rows are in exactly one of `base` and the `count` rows of `under` and `delta`.
 pub(crate) fn delta_of(base: &[Row], under: &[Row], delta: &[Row], count: u64) -> u64
     requires base { IsRows base.now }
     requires parts { AreParts under.now delta.now }

@@ -1,17 +1,24 @@
-//! Versions of a bucket: the rows under one leaf of an index.
+//! Versions of a bucket, which is the set of rows under one leaf of an index.
 //!
-//! Contracts see a `Bucket` as two lists of distinct rows in order: its base, and its rows now. Mostly the rows are their own
-//! base. Few rows are one list, which a change shifts and a version copies whole. Of many the list has a delta alone: the rows
-//! that stand in exactly one of all and others below, which versions share. A delta that is long for the rows below gives way
-//! to a list of all rows, so that a change shifts, and a version copies, no more than some square root of them. A base that is
-//! kept while rows change stands below the list at first, and then beside it. `with_put` and
-//! `with_gone` give a new bucket with the same base, `folded` makes the rows its base, `cut` makes a bucket of some of the base's
-//! rows, and `caught_up` gives such a one the rows that the other has since. No call hands out rows of a bucket but `rows`, which
-//! is a step. `put`, `take`, `shift` and `pass` change what a pointer holds,
-//! in place where nobody shares it, and keep its base or don't (`RowChange`). They wait for a step that may fail (`Commit`), and
-//! take it when all memory is there, before anything changes. `own` gives what a pointer holds to write to, in a trie too.
+//! Contracts see a `Bucket` as two lists of distinct rows in order: its base and its rows now. The base is what the
+//! rows were when the bucket was last folded; mostly the rows are their own base.
 //!
-//! Not here: which keys a bucket may hold (`index_layer`), and when a bucket is folded or cut (`point_table`, `split_prepare`).
+//! How rows are stored: few rows are one list. A list of 1,024 rows or more gives way, at its next change, to a shared
+//! list and a delta. The delta has the rows that are in exactly one of the shared list and the rows now. It may have 32
+//! rows, or four times the square root of the shared list's length if that is more. A longer delta gives way to a new
+//! shared list. So a change shifts few rows and a version copies few. A base that is kept while rows change is the
+//! shared list at first, and later a list of its own.
+//!
+//! `with_put` and `with_gone` return a new bucket on the same base. `folded` makes the rows the base. `cut` makes a
+//! bucket of a part of the base, and `caught_up` brings that bucket up to date. Only `rows` returns rows, and each call
+//! of it is a step.
+//!
+//! `put`, `take`, `shift` and `pass` change the bucket behind a pointer, in place if nobody shares it. Each takes a
+//! step that may fail (`Commit`), once all memory is there and before it changes anything. `RowChange` says whether the
+//! bucket keeps its base. `own` lends what is behind a pointer, and clones it first if it is shared.
+//!
+//! Not here: which keys a bucket may have (`index_layer`), and when a bucket is folded or cut (`point_table`,
+//! `split_prepare`).
 #![tactic(auto)]
 
 mod bucket;

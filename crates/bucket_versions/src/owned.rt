@@ -1,4 +1,4 @@
-//! What is behind a pointer, to write to.
+//! Exclusive access to what is behind a shared pointer.
 ghost use Rattle.std.specs.Prelude.{◌≡◌, ◌⊎◌, IfOk};
 ghost use Rattle.std.specs.Arc.{arc_value, arc_follows_make_mut};
 ghost use Rattle.std.specs.Borrow.{sem};
@@ -6,8 +6,9 @@ ghost use Rattle.std.specs.Borrow.{sem};
 use std::alloc::{AllocError, Allocator};
 use std::sync::Arc;
 
-/// What is behind a pointer, to write to: a clone of it, if it has other owners. `Arc::make_mut` does the same, and is called
-/// only then, so that no call stands in a loop down a tree of pointers.
+/// Returns what is behind a pointer, to write to. If the pointer has other owners, it first clones the value.
+/// `Arc::make_mut` does the same. It is called only for a shared value, so that a loop down a tree of pointers has no
+/// call in it.
 #[inline(always)]
 pub fn own<T: Clone + Drop, A: Allocator + Clone>(
     shared: &mut Arc<T, A>,
@@ -24,7 +25,7 @@ pub fn own<T: Clone + Drop, A: Allocator + Clone>(
     }
 }
 
-// Parts a pointer from its other owners.
+// Separates a pointer from its other owners.
 #[inline(never)]
 fn part<T: Clone + Drop, A: Allocator + Clone>(shared: &mut Arc<T, A>) -> Result<(), AllocError>
     ensures { (arc_value shared.new ≡ arc_value shared.old) ⊎ T.is_clone (arc_value shared.old) (arc_value shared.new) }

@@ -1,11 +1,11 @@
-//! Where rows stand in a list in order, found by binary search.
+//! Binary searches in a list of rows in order.
 ghost use Rattle.std.specs.Prelude.{◌≡◌, ◌≤◌, ◌<◌, ◌+◌, ◌*◌, ◌^◌, nat_le, nat_lt, true, false, length, MatchResult};
 ghost use Rattle.std.specs.List.{filter};
 ghost use Rattle.bucket_versions.specs.Rows.{IsRows, has_row, rows_between, row_place, is_below};
 
 use crate::row::Row;
 
-/// Where a row stands, or in an `Err` where it would.
+/// Returns the index of a row, or `Err` with the index at which it would be inserted.
 pub(crate) fn place_of(rows: &[Row], row: &Row) -> Result<usize, usize>
     requires { IsRows rows.now }
     ensures there { MatchResult result (λ i. has_row row.now rows.now ≡ true) (λ i. has_row row.now rows.now ≡ false) }
@@ -28,8 +28,8 @@ fn rows_below(rows: &[Row], row: &Row) -> usize
     rows.partition_point(|r| is_below(r, row))
 }
 
-// Whether a row comes before another. As numbers of 128 bits they are compared without a branch, which a processor would guess wrong
-// half of the time.
+// Returns whether a row comes before another. It compares 128-bit numbers without a branch, because a processor would
+// guess the branch wrong half of the time.
 #[inline(always)]
 fn is_below(row: &Row, other: &Row) -> bool
     ensures { result ≡ is_below row.now other.now }
@@ -45,7 +45,7 @@ fn as_number(row: &Row) -> u128
     u128::from(row.key) * (1 << 64) + u128::from(row.id)
 }
 
-/// The rows with keys from `lo` to `hi`, out of rows in order.
+/// Returns the rows with keys from `lo` to `hi`.
 pub fn between(rows: &[Row], lo: u64, hi: u64) -> &[Row]
     requires { IsRows rows.now }
     ensures rows { result.now ≡ rows_between lo hi rows.now }
@@ -71,7 +71,7 @@ fn from_key(rows: &[Row], lo: u64) -> &[Row]
     &rows[start..]
 }
 
-/// The rows with keys above this one, out of rows in order.
+/// Returns the rows with keys above `key`.
 #[inline(never)]
 pub(crate) fn above_key(rows: &[Row], key: u64) -> &[Row]
     requires { IsRows rows.now }

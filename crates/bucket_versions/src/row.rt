@@ -1,16 +1,16 @@
-//! One row of a bucket, and its coming or going.
+//! One row of a bucket, and a change by one row.
 
-/// An object's id, at the key of its point. Rows are ordered by key, and then by id.
+/// An object's id and the key of its point. Rows are ordered by key, and then by id.
 #[derive(Clone, Copy, Debug, PartialEq, Eq, PartialOrd, Ord)]
 pub struct Row {
     pub key: u64,
     pub id: u64,
 }
 
-/// A row that comes to a bucket, or goes from it.
+/// A row that is added to a bucket or removed from it.
 #[derive(Clone, Copy, Debug)]
 pub struct RowChange {
     pub row: Row,
-    /// Whether the bucket keeps its base. Else its rows are its base from then on.
+    /// Whether the bucket keeps its base. If it doesn't, the changed rows are its base.
     pub keeps_base: bool,
 }

@@ -1,10 +1,10 @@
-//! Rows in order, of which a change shifts few, and a share copies few, however many there are.
-ghost use Rattle.std.specs.Prelude.{◌≡◌, ℕ, ◌+◌, ◌<◌, ◌^◌, false, length, vec_len, vec_capacity, IfOk, OnOk, OnErr, IsFalse};
+//! Rows in order. A change shifts few of them and a copy copies few of them, however many there are.
+ghost use Rattle.std.specs.Prelude.{◌≡◌, ℕ, ◌+◌, ◌<◌, ◌^◌, nat_lt, false, length, vec_len, vec_capacity, IfOk, OnOk, OnErr, IsFalse};
 ghost use Rattle.std.specs.Arc.{arc_value};
 ghost use Rattle.bucket_versions.specs.declared.row_list.Under.{Under};
 ghost use Rattle.bucket_versions.specs.Rows.{IsRows, has_row, after_put};
 ghost use Rattle.bucket_versions.specs.Delta.{AreParts, difference, turn};
-ghost use Rattle.bucket_versions.specs.RowList.{rows_under, listed, is_short, MayHave, IsCounted, IsRowList, HasRoom};
+ghost use Rattle.bucket_versions.specs.RowList.{rows_under, listed, is_short, MayHave, IsCounted, IsRowList, HasRoom, is_flat, most_flat, is_full};
 ghost use Rattle.bucket_versions.specs.Told.{Told};
 
 use crate::bucket::{Bucket, put};
@@ -16,23 +16,23 @@ use std::alloc::{AllocError, Global};
 use std::sync::Arc;
 use zorder::Memory;
 
-// A list of so many rows, with none below it, gives way to one above them.
-const MOST_LISTED: usize = 1024;
+// The length at which a list of all rows becomes a shared list with a delta.
+const MOST_FLAT: usize = 1024;
 
-// No memory has so many rows.
+// No computer has memory for so many rows.
 const MOST_ROWS: usize = 1 << 62;
 
-/// What stands below a list of rows.
+/// What is below a list of rows.
 #[derive(Drop)]
 pub(crate) enum Under {
-    /// Nothing: the list has the rows whole.
+    /// No list is below; the list has all rows.
     Nothing,
-    /// Rows that others share: the list has the delta, the rows that stand in exactly one of both. Beside them, how many rows that is.
+    /// A shared list, and the total number of rows. The list above it has the delta: the rows in exactly one of both.
     Shared(Arc<Vec<Row>>, u64),
 }
 
 impl Under {
-    // Counts a row that is turned in the list.
+    // Updates the count before a row is toggled in the list.
     fn count_turned(&mut self, list: &[Row], row: &Row)
         requires parts { IsRows (rows_under self.old) × IsRows list.now }
         requires counted { IsCounted self.old list.now }
@@ -47,7 +47,7 @@ impl Under {
     }
 }
 
-/// Rows in order. A delta gives way to the list of all rows when it is longer than the square root of these by so much.
+/// Rows in order. A delta that is too long for the shared list below it gives way to a list of all rows.
 #[derive(Drop)]
 pub(crate) struct RowList {
     pub(crate) under: Under,
@@ -55,12 +55,12 @@ pub(crate) struct RowList {
 }
 
 impl RowList {
-    /// These rows.
+    /// Creates a list of these rows.
     pub(crate) fn new(list: Vec<Row>) -> RowList
         requires { IsRows list.items }
         ensures rows { listed result ≡ list.items }
         ensures is { IsRowList result }
-        ensures room { HasRoom 2 result }
+        ensures form { result ≡ record { under = Under.Nothing; list = list } }
     {
         RowList {
             under: Under::Nothing,
@@ -68,7 +68,7 @@ impl RowList {
         }
     }
 
-    /// Two lists whose difference the rows are.
+    /// Returns two lists whose symmetric difference is the rows.
     pub(crate) fn parts(&self) -> (&[Row], &[Row])
         requires { IsRowList self.now }
         ensures rows { difference result.0.now result.1.now ≡ listed self.now }
@@ -80,7 +80,7 @@ impl RowList {
         }
     }
 
-    /// The rows below.
+    /// Returns the rows below the list.
     pub(crate) fn under(&self) -> &[Row]
         ensures { result.now ≡ rows_under self.now.under }
     {
@@ -90,7 +90,7 @@ impl RowList {
         }
     }
 
-    /// The same, with the others that share them.
+    /// Returns the rows below the list as a shared list.
     pub(crate) fn shared_under(&self, alloc: Global) -> Result<Arc<Vec<Row>>, Memory>
         ensures { IfOk result (λ base. (arc_value base).items ≡ rows_under self.now.under) }
     {
@@ -110,7 +110,7 @@ impl RowList {
         }
     }
 
-    /// The same, with a list of its own.
+    /// Copies the list. The copy shares the list below.
     pub(crate) fn share(&self, alloc: Global) -> Result<RowList, AllocError>
         requires { IsRowList self.now }
         ensures rows { IfOk result (λ l. listed l ≡ listed self.now) }
@@ -125,26 +125,28 @@ impl RowList {
         Ok(RowList { under, list })
     }
 
-    /// Whether the list is to give way before two more rows are turned.
+    /// Returns whether the list has to give way before two more rows are toggled.
     pub(crate) fn is_full(&self) -> bool
-        ensures { IsFalse result → HasRoom 2 self.now }
+        ensures is { result ≡ is_full self.now }
+        ensures room { IsFalse result → HasRoom 2 self.now }
     {
         match &self.under {
-            Under::Nothing => self.list.len() >= MOST_LISTED,
+            Under::Nothing => self.list.len() >= MOST_FLAT,
             Under::Shared(base, _) => !is_short(base.len(), self.list.len() + 2),
         }
     }
 
-    /// Lists the same rows anew, so that two more may be turned.
+    /// Stores the same rows from scratch, so that two more rows can be toggled.
     pub(crate) fn renew(&mut self, alloc: Global) -> Result<(), Memory>
         requires { IsRowList self.old }
         ensures rows { listed self.new ≡ listed self.old }
         ensures is { IsRowList self.new }
-        ensures ok { OnOk result (HasRoom 2 self.new) }
+        ensures form { OnOk result (is_flat self.new.under ≡ nat_lt (length (listed self.old)) most_flat) }
+        ensures ok { OnOk result ((is_full self.new ≡ false) × HasRoom 2 self.new) }
     {
         let (base, delta) = self.parts();
         let rows = merged(alloc, base, delta)?;
-        if rows.len() < MOST_LISTED {
+        if rows.len() < MOST_FLAT {
             *self = RowList::new(rows);
             return Ok(());
         }
@@ -152,7 +154,7 @@ impl RowList {
         Ok(())
     }
 
-    /// Puts the rows below, and none in the list.
+    /// Moves all rows into the shared list below. The list itself becomes empty.
     pub(crate) fn lower(&mut self, alloc: Global) -> Result<(), Memory>
         requires { IsRowList self.old }
         ensures rows { listed self.new ≡ listed self.old }
@@ -165,12 +167,13 @@ impl RowList {
         Ok(())
     }
 
-    // No row turned above these.
+    // Creates an empty delta over these rows.
     fn above(alloc: Global, rows: Vec<Row>) -> Result<RowList, Memory>
         requires { IsRows rows.items }
         ensures rows { IfOk result (λ l. (listed l ≡ rows.items) × (rows_under l.under ≡ rows.items)) }
         ensures is { IfOk result (λ l. IsRowList l) }
-        ensures room { IfOk result (λ l. HasRoom 2 l) }
+        ensures form { IfOk result (λ l. is_flat l.under ≡ false) }
+        ensures room { IfOk result (λ l. (is_full l ≡ false) × HasRoom 2 l) }
     {
         let count = rows.len() as u64;
         Ok(RowList {
@@ -179,7 +182,7 @@ impl RowList {
         })
     }
 
-    // Turns a row, where there is room for it.
+    // Toggles a row. The list has room for it.
     fn turn(&mut self, row: Row)
         requires is { IsRowList self.old × HasRoom 1 self.old }
         requires room { vec_len self.old.list < vec_capacity self.old.list }
@@ -193,7 +196,7 @@ impl RowList {
         own_rows::turn_within(&mut self.list, row);
     }
 
-    // Turns one row and then another, where there is room for both.
+    // Toggles one row and then another. The list has room for both.
     fn turn_both(&mut self, first: Row, second: Row)
         requires is { IsRowList self.old × HasRoom 2 self.old }
         requires room { vec_len self.old.list + 1 < vec_capacity self.old.list }
@@ -209,7 +212,7 @@ impl RowList {
         self.turn(second);
     }
 
-    /// Turns a row, once the step has succeeded.
+    /// Toggles a row, once the step has succeeded.
     pub(crate) fn turn_one<C: Commit>(&mut self, row: Row, commit: &mut C) -> Result<(), Undone>
         requires can { C.can commit.old }
         requires is { IsRowList self.old × HasRoom 2 self.old }
@@ -226,7 +229,7 @@ impl RowList {
         Ok(())
     }
 
-    /// Turns one row and then another, once the step has succeeded.
+    /// Toggles one row and then another, once the step has succeeded.
     pub(crate) fn turn_two<C: Commit>(
         &mut self,
         from: Row,
@@ -248,7 +251,7 @@ impl RowList {
         Ok(())
     }
 
-    /// Turns a row, and adds one to a bucket, once the step has succeeded.
+    /// Toggles a row, and adds one to another bucket, once the step has succeeded.
     pub(crate) fn hand_over<C: Commit>(
         &mut self,
         from: Row,
@@ -274,7 +277,7 @@ impl RowList {
     }
 }
 
-// How many rows there are once one is turned.
+// Returns the number of rows after `row` is toggled.
 fn count_turned(base: &[Row], delta: &[Row], row: &Row, count: u64) -> u64
     requires parts { AreParts base.now delta.now }
     requires count { count ≡ length (difference base.now delta.now) }
@@ -288,7 +291,7 @@ fn count_turned(base: &[Row], delta: &[Row], row: &Row, count: u64) -> u64
     }
 }
 
-// Whether a delta may have so many rows.
+// Returns whether a delta over `below` rows may have `rows` rows.
 fn is_short(below: usize, rows: usize) -> bool
     ensures { result ≡ is_short below rows }
 {

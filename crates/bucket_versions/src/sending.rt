@@ -1,4 +1,4 @@
-//! A bucket may be sent to another thread, and shared by threads.
+//! Checks at compile time that a bucket can be sent to other threads and shared by them.
 use crate::bucket::Bucket;
 
 fn in_threads<T: Send + Sync>() {}

@@ -1,4 +1,4 @@
-//! The rows of a bucket, one after the other.
+//! The iterator over the rows of a bucket.
 ghost use Rattle.std.specs.Prelude.{◌≡◌, ◌∷◌, [], false, nat_lt, MatchOption, IfSome, IsTrue};
 ghost use Rattle.std.specs.List.{filter};
 ghost use Rattle.bucket_versions.specs.Rows.{IsRows};
@@ -8,7 +8,7 @@ use crate::places::above_key;
 use crate::row::Row;
 use std::marker::Model;
 
-/// An iterator over the rows of a bucket, in order. Contracts see it as the rows that are left.
+/// An iterator over the rows of a bucket, in order. Contracts see it as the list of the rows that are left.
 #[derive(Drop)]
 pub struct BucketRows<'a> {
     base: &'a [Row],
@@ -35,7 +35,8 @@ impl<'a> BucketRows<'a> {
         BucketRows { base, delta }
     }
 
-    /// Passes over the rows that are next with keys up to this one: a search, so however many they are it costs their logarithm.
+    /// Skips all rows whose keys are at most `key`. A binary search finds the next row, so the cost is
+    /// logarithmic in the number of rows left.
     pub fn pass_key(&mut self, key: u64)
         ensures { self.new ≡ filter (λ r. nat_lt key r.key) self.old }
     {
@@ -47,7 +48,7 @@ impl<'a> BucketRows<'a> {
     }
 }
 
-// Whether all rows in order have keys above this one, as the first tells.
+// Returns whether all rows have keys above `key`. The rows are in order, so it looks at the first one.
 #[inline(always)]
 fn are_above(rows: &[Row], key: u64) -> bool
     requires { IsRows rows.now }
@@ -59,7 +60,7 @@ fn are_above(rows: &[Row], key: u64) -> bool
     }
 }
 
-// Whether both begin with one row.
+// Returns whether both lists begin with the same row.
 fn meet(base: &[Row], delta: &[Row]) -> bool
     ensures { result ≡ heads_meet base.now delta.now }
 {
@@ -69,7 +70,7 @@ fn meet(base: &[Row], delta: &[Row]) -> bool
     }
 }
 
-// Whether the first row of the difference of two that don't meet is the first of the delta.
+// Returns whether the delta's first row is the next row. The lists do not begin with the same row.
 fn leads(base: &[Row], delta: &[Row]) -> bool
     ensures { result ≡ delta_leads base.now delta.now }
 {
@@ -82,7 +83,7 @@ fn leads(base: &[Row], delta: &[Row]) -> bool
     }
 }
 
-// Both, without the rows at their heads that are in both: those were taken out.
+// Skips rows that are at the head of both lists. These rows were removed from the bucket.
 fn apart<'a>(base: &'a [Row], delta: &'a [Row]) -> (&'a [Row], &'a [Row])
     requires { AreParts base.now delta.now }
     ensures in_order { AreParts result.0.now result.1.now }
@@ -107,7 +108,7 @@ impl<'a> Iterator for BucketRows<'a> {
 
     ghost remaining = { item_count (λ left. left) };
 
-    // Mostly no row differs from the base, and the rows are those of one list.
+    // In most calls the delta is empty, and the next row is that of one list.
     fn next(&mut self) -> Option<&'a Row> {
         if self.delta.is_empty() {
             let (first, others) = self.base.split_first()?;
@@ -121,8 +122,8 @@ impl<'a> Iterator for BucketRows<'a> {
     }
 }
 
-// The first row of the difference of two lists, and two whose difference the others are. It takes the lists and not the
-// iterator, so that a loop over the rows of one list keeps the iterator in registers.
+// Returns the next row of a base and a delta, and the rest of both. It takes the lists instead of the iterator, so that
+// a loop over one list keeps the iterator in registers.
 #[inline(never)]
 fn merged_next<'a>(base: &'a [Row], delta: &'a [Row]) -> Option<(&'a Row, &'a [Row], &'a [Row])>
     requires { AreParts base.now delta.now }

@@ -1,4 +1,4 @@
-//! All threads at once.
+//! Runs all threads of a plan at once.
 ghost use Rattle.std.specs.Prelude.{◌≡◌, ◌≤◌, [], IfSome, vec_len};
 ghost use Rattle.plain_list.specs.World.{IsWorld};
 ghost use Rattle.store_client.specs.Caller.{Keeps};
@@ -40,7 +40,7 @@ fn put_all<I: Index, D: LogDisk, O: Start, R: Wait>(
     }
 }
 
-// The objects are put, and then all threads call.
+// Puts the objects, and then all threads call.
 fn call_all<I: Index + Send, D: LogDisk + Send, O: Start + Send, R: Threads + Wait + Clock + Sync>(
     rt: &R,
     alloc: Global,
@@ -55,7 +55,7 @@ fn call_all<I: Index + Send, D: LogDisk + Send, O: Start + Send, R: Threads + Wa
     client.work_all(rt, 0, callers).ok()
 }
 
-/// Plays over an empty store, where there is memory for it, and gives what each session was told.
+/// Plays a plan on an empty store, and returns each session's counts and times. Returns `None` if memory runs out.
 pub fn play<I: Index + Send, D: LogDisk + Send, R: Threads + Wait + Clock + Sync>(
     rt: &R,
     alloc: Global,

@@ -1,10 +1,13 @@
-//! Measures calls of a store, as a program's own threads make them with a client each: at a pace or seldom, alone, beside a batch, and
-//! beside one that calls without a pause.
+//! Measures calls of a store by a program's own threads, each with a client. The threads call at a pace or rarely. They
+//! run alone, next to a batch, or next to a thread that calls without a pause.
 //!
-//! `callers THREADS RATE MILLISECONDS BATCH BUSY`: each of so many threads (16 at most) makes so many calls a second for so long, three
-//! moves of its own objects to a near of 8. Meanwhile so many threads of a batch (3 at most), and so many others (1 at most), make such
-//! calls without a pause. It prints counts alone, which are the same whatever the schedule. With the word `times` behind them it also
-//! prints how many nanoseconds each call of the first took, and `tools/waits.py` makes a table of these.
+//! Usage: `callers THREADS RATE MILLISECONDS BATCH BUSY`.
+//!
+//! Each of THREADS threads (1 to 16) makes RATE calls a second for MILLISECONDS ms. Of four calls, three move objects
+//! of its own, and one finds the nearest 8. Meanwhile BATCH threads of a batch (at most 3) and BUSY others (at most 1)
+//! make such calls without a pause. The program prints only counts, which are the same in every schedule. With the word
+//! `times` at the end it also prints how many nanoseconds each paced call took. `tools/waits.py` makes a table of
+//! these.
 #![tactic(auto)]
 
 ghost use Rattle.std.specs.Prelude.{◌≤◌};
@@ -25,7 +28,7 @@ use std::io::Print;
 use std::time::Duration;
 use work::Caller;
 
-// How many objects a leaf should have.
+// The bucket size in objects.
 const BUCKET: u32 = 64;
 
 fn number(word: Option<String>, otherwise: u64, most: u64) -> u64
@@ -38,7 +41,7 @@ fn number(word: Option<String>, otherwise: u64, most: u64) -> u64
     number.min(most)
 }
 
-// What the words ask for.
+// The plan for the words.
 fn plan_of(words: &mut Args) -> Plan {
     let paced = number(words.next(), 4, 16).max(1) as u8;
     let rate = number(words.next(), 5_000, 1_000_000).max(1);

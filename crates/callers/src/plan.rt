@@ -1,24 +1,24 @@
-//! What is to be played.
+//! The plan of a measurement.
 use std::time::Duration;
 
 /// How many threads call, and how.
 #[derive(Clone, Copy)]
 pub struct Plan {
-    /// Threads whose calls are counted and timed.
+    /// How many threads are paced: their calls are counted and timed.
     pub paced: u8,
     /// How many calls each of them makes.
     pub calls: u32,
-    /// How many microseconds there are from the beginning of one to that of the next.
+    /// How many microseconds lie between the begins of two calls of a thread.
     pub micros: u64,
-    /// Threads of a batch that call without a pause for as long as the paced ones are to take.
+    /// How many threads of a batch call without a pause, as long as the paced threads are planned to take.
     pub batch: u8,
-    /// How many threads there are in all: the others do so too.
+    /// How many threads there are in all. Those that are neither paced nor of the batch also call without a pause.
     pub all: u8,
     pub tells_times: bool,
 }
 
 impl Plan {
-    /// When a paced thread makes the call of this number.
+    /// When a paced thread is to make the call of this number, counted from the start.
     pub fn due(&self, row: u32) -> Duration {
         Duration::from_micros(self.micros.saturating_mul(u64::from(row)))
     }

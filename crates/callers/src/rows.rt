@@ -1,4 +1,4 @@
-//! What is asked, and what is told.
+//! The calls of each session, and their right answers.
 ghost use Rattle.plain_list.specs.Answer.{IsValid};
 
 use plain_list::{Answer, Op};
@@ -14,7 +14,7 @@ fn number(session: u8, object: u32) -> u32 {
         .wrapping_add(object)
 }
 
-// Where an object is after so many rounds: anywhere, and a little farther on each time.
+// Where an object is in this round: anywhere at first, and a little farther in each round.
 fn place(number: u32, round: u32) -> Point {
     let farther = round.wrapping_mul(65_536);
     Point {
@@ -34,7 +34,7 @@ pub fn put_of(number: u32) -> Op
     }
 }
 
-/// What a session's row asks: three moves, and then the nearest eight.
+/// The operation of a session's row: three moves, then a query for the nearest eight.
 pub fn op_of(session: u8, row: u32) -> Op
     ensures { IsValid result }
 {
@@ -51,7 +51,7 @@ pub fn op_of(session: u8, row: u32) -> Op
     }
 }
 
-/// Whether a row was told what it should be.
+/// Whether the answer to a row is the right one.
 pub fn is_good(row: u32, answer: &Answer) -> bool {
     match answer {
         Answer::Moved(_) => row % 4 != 3,

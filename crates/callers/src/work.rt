@@ -13,14 +13,14 @@ use std::thread;
 use std::time::{Duration, Instant};
 use store_client::{Client, Work};
 
-/// A session that calls. The first sessions are paced, then come those of a batch, and then the busy ones.
+/// A session that calls. The first sessions are paced, the next are those of the batch, and the last are busy.
 #[derive(Drop)]
 pub struct Caller {
     session: u8,
     plan: Plan,
-    /// How many answers of a paced one were as they should be.
+    /// How many answers of a paced session were right.
     pub good: u64,
-    /// How long each of its calls took, where that is to be told.
+    /// How long each call of a paced session took, if the plan says to print times.
     pub times: Vec<Duration>,
 }
 
@@ -34,7 +34,7 @@ impl Caller {
         }
     }
 
-    // Makes one call, and tells whether the answer was as it should be.
+    // Makes one call, and returns whether its answer was right.
     fn call<I: Index, D: LogDisk, O: Start, R: Wait>(
         &self,
         rt: &R,
@@ -75,7 +75,7 @@ impl Caller {
         }
     }
 
-    // Calls without a pause for as long as the paced threads are to take.
+    // Calls without a pause, as long as the paced threads are planned to take.
     fn call_on<I: Index, D: LogDisk, O: Start, R: Wait + Clock>(
         &self,
         rt: &R,
@@ -108,7 +108,7 @@ impl<R: Wait + Clock> Work<R> for Caller {
     }
 }
 
-// Waits until it is time for a row.
+// Sleeps until it is time for a row.
 fn wait_for(rt: &impl Clock, start: Option<Instant>, due: Duration) {
     if let Some(gone) = since(rt, start) {
         let left = due.saturating_sub(gone);
@@ -122,7 +122,7 @@ fn since(rt: &impl Clock, start: Option<Instant>) -> Option<Duration> {
     start?.elapsed(rt).ok()
 }
 
-// Whether the time is up. The clock is read for one row in 64.
+// Whether the time is over. The clock is read for one row of 64.
 fn is_over(rt: &impl Clock, start: Option<Instant>, end: Duration, row: u32) -> bool {
     if row % 64 != 0 {
         return false;

@@ -1,8 +1,8 @@
-//! When a fault may be told: definitions alone, which every layer that reads, writes or syncs cites.
+//! When a call may return a fault. The crate has definitions alone; every crate that reads, writes or syncs cites them.
 //!
-//! Contracts see a count of faults per object, a number that never falls and stands still at the end of a `u64`. A call
-//! may answer its fault only where that count rose in the call, and leaves the count where it succeeds, so that no call that
-//! failed is tried again unseen.
+//! Contracts see a count of faults for each source, sink or drive. The count never falls, and ends at 2^64 - 1. A call
+//! may return a fault only if the count rose during the call. A call that succeeds leaves the count unchanged, so it
+//! cannot hide an attempt that failed.
 //!
-//! Not here: who keeps the count (`io_edge` for sources and sinks, `disk_trait` for log files).
+//! Not here: the counts themselves (`io_edge` for sources and sinks, `disk_trait` for log files).
 #![tactic(auto)]

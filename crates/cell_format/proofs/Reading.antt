@@ -11,7 +11,7 @@ use Rattle.std.proofs.Math.Seq.{drop-cons}
 use Rattle.cell_format.specs.declared.cell.Cell.{Cell}
 use Rattle.cell_format.specs.declared.cell.CellFault.{CellFault}
 use Rattle.cell_format.specs.declared.cell.CellFault.TheVariants.{Kind, Reserved, BadName}
-use Rattle.cell_format.specs.Spelling.{Spells, body_of, body, position_bytes, name_bytes}
+use Rattle.cell_format.specs.Spelling.{Spells, body_of, body, position_bytes, name_bytes, IsVersion}
 use Rattle.cell_format.specs.Decoding.{decoded, cell_or_name_fault, cell_of_kind, long_at, short_at, point_at, name_at, zeros_from, is_kind, has_zeros, is_name}
 use Rattle.cell_format.specs.Faults.{HasKind, HasZeros, HasNoKind, HasReserved, HasBadName}
 use Rattle.cell_format.specs.Decodes.{Decodes}
@@ -43,10 +43,10 @@ decoded-reserved v bytes kind set = λ i. by_tests (kind i) (set i) (cell_or_nam
 pub decoded-rest : (v : ℕ) (bytes : List ℕ) → is_kind (slice_index bytes 1) ≡ true → has_zeros v (slice_index bytes 1) bytes ≡ true → decoded v bytes ≡ cell_or_name_fault (slice_index bytes 1) bytes
 decoded-rest v bytes kind zeros = λ i. by_tests (kind i) (zeros i) (cell_or_name_fault (slice_index bytes 1) bytes)
 
-pub decoded-spelled : (v : ℕ) → (v ≡ 1) ⊎ (v ≡ 2) → (bytes : List ℕ) (cell : Cell) → Spells v cell bytes → decoded v bytes ≡ Ok cell
+pub decoded-spelled : (v : ℕ) → IsVersion v → (bytes : List ℕ) (cell : Cell) → Spells v cell bytes → decoded v bytes ≡ Ok cell
 decoded-spelled v known bytes cell s = ap (decoded v) s.spelled ∙ decoded-spelling v known cell s.fits
 
-no_fault : (v : ℕ) → (v ≡ 1) ⊎ (v ≡ 2) → (bytes : List ℕ) (f : CellFault) → decoded v bytes ≡ Err f → (cell : Cell) → Spells v cell bytes → ◌≡◌ {A = Result Cell CellFault} (Err f) (Ok cell)
+no_fault : (v : ℕ) → IsVersion v → (bytes : List ℕ) (f : CellFault) → decoded v bytes ≡ Err f → (cell : Cell) → Spells v cell bytes → ◌≡◌ {A = Result Cell CellFault} (Err f) (Ok cell)
 no_fault v known bytes f fault cell s = sym fault ∙ decoded-spelled v known bytes cell s
 
 has_kind : (kind : ℕ) → is_kind kind ≡ true → (1 ≤ kind) × (kind ≤ 6)
@@ -83,7 +83,7 @@ decoded-HasBadName v bytes long has =
     let bad : is_bad_name bytes ≡ true = both_true (eq-eqb (slice_index bytes 1) 4 has.begin) (ap not (no_name (long_at 10 bytes) (slice_index bytes 18) has.bad)) in
     decoded-rest v bytes kind zeros ∙ ap (λ t. by_name_test t (cell_of_kind (slice_index bytes 1) bytes)) bad
 
-pub decodes-no_kind : (v : ℕ) → (v ≡ 1) ⊎ (v ≡ 2) → (bytes : List ℕ) → is_kind (slice_index bytes 1) ≡ false → Decodes v bytes (Err Kind)
+pub decodes-no_kind : (v : ℕ) → IsVersion v → (bytes : List ℕ) → is_kind (slice_index bytes 1) ≡ false → Decodes v bytes (Err Kind)
 decodes-no_kind v known bytes none = record {
   spelled = tt;
   found = no_fault v known bytes Kind (decoded-no_kind v bytes none);
@@ -92,7 +92,7 @@ decodes-no_kind v known bytes none = record {
   bad_name = (λ e. (cc), λ b. absurd (no_kind bytes none (begins bytes b.begin)));
 }
 
-module _ (v : ℕ) (known : (v ≡ 1) ⊎ (v ≡ 2)) (bytes : List ℕ) (long : length bytes ≡ 32) (small : AreBytes bytes) (set : slice_index bytes 0 ≡ 1) where
+module _ (v : ℕ) (known : IsVersion v) (bytes : List ℕ) (long : length bytes ≡ 32) (small : AreBytes bytes) (set : slice_index bytes 0 ≡ 1) where
   -- up to the number
   numbered : (kind : ℕ) → slice_index bytes 1 ≡ kind → bytes ≡ 1 ∷ kind ∷ (to_be_bytes w64 (long_at 2 bytes) ++ drop 10 bytes)
   numbered kind is = head_two bytes (omega arith) ∙ (λ i. set i ∷ is i ∷ drop-long_at bytes 2 (omega arith) small i)

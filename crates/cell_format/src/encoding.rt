@@ -1,4 +1,4 @@
-//! From a cell to its bytes.
+//! Encoding: from a record to its 32 bytes.
 ghost use Rattle.std.specs.Prelude.{◌≡◌, ℕ, List, ◌≤◌, [], ◌∷◌, length};
 ghost use Rattle.zorder.specs.Key.{IsPoint};
 ghost use Rattle.cell_format.specs.Spelling.{newest, Spells, body, header_text, name_bytes, position_bytes};
@@ -8,7 +8,7 @@ use crate::kinds;
 use zorder::{Name, Point};
 
 #[tactic(auto, unfolding(crate::specs::Spelling::header_text))]
-/// The head of a log of this version, whose splits make `2 ^ width` children.
+/// Returns the header of a log of this version, whose splits make `2 ^ width` children.
 pub fn header(version: u8, width: u8) -> [u8; 16]
     ensures { result ≡ header_text version width }
 {
@@ -20,7 +20,7 @@ pub fn header(version: u8, width: u8) -> [u8; 16]
 }
 
 #[tactic(auto, unfolding(crate::specs::Spelling::body_of))]
-/// The bytes of a cell in a log of version 2, its commit byte set.
+/// Returns the bytes of a record in a log of version 2, with the commit byte set.
 pub fn encode(cell: &Cell) -> [u8; 32]
     ensures spells { Spells newest cell.now result }
     ensures one { (bytes : List ℕ) → Spells newest cell.now bytes → bytes ≡ result }

@@ -2,6 +2,7 @@
 use Rattle.std.proofs.Common.{◌≡◌, ◌⊎◌, ◌∙◌, ◌<◌, ◌≤◌, inl, inr, ℕ, List, [], ◌∷◌, length, get_or, Option, Some, None, sym, ap, subst, arith}
 use Rattle.std.specs.Prelude.{codes, sum, IsTrue, MatchOption}
 use Rattle.std.proofs.lemmas.Bool.{true≢false}
+use Rattle.zorder.specs.Width.{IsWidth}
 use Rattle.zorder.specs.declared.points.Region.{Region}
 use Rattle.csv_rows.specs.Numbers.{number_in}
 use Rattle.command_words.specs.Words.{Command, AsksFor, NamesFile, SpellsBox, SpellsNoSize, SpellsInit, SpellsPlay, SpellsShow, NamesPair, IsAccepted, IsInit, IsCheck, IsPlay, IsShow, IsTrial, IsUnlogged, IsLogged, IsCompact, IsWatch, IsFollow, NamesNoFile, NamesNoPair, is_file_name, Init, Check, Play, Show, Trial, Compact, Watch, Follow}
@@ -31,7 +32,7 @@ same-width words f g v w (inr (three, is)) (inl (two, same)) = absurd (omega (ar
 same-width words f g v w (inr (three, is)) (inr (also, same)) = is ∙ sym same
 
 -- a log is made of a width that logs have
-pub init-width : (words : List (List ℕ)) (file : List ℕ) (width : ℕ) → AsksFor words (Init file width) → (width ≡ 1) ⊎ (width ≡ 2)
+pub init-width : (words : List (List ℕ)) (file : List ℕ) (width : ℕ) → AsksFor words (Init file width) → IsWidth width
 init-width words file width (named, inl two) = inl two.1
 init-width words file width (named, inr three) = inr three.1
 

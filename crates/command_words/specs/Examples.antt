@@ -1,4 +1,4 @@
--- Worked words.
+-- Worked values, computed.
 use Rattle.std.specs.Prelude.{◌≡◌, ℕ, List, [], ◌∷◌, None, codes}
 use Rattle.std.proofs.Common.{refl, inl, inr, get_or, ap, sym, ◌∙◌}
 use Rattle.csv_rows.specs.Numbers.{number_in, is_between, is_number}
@@ -28,17 +28,17 @@ makes_pairs = inl (refl, refl)
 makes_fours : SpellsInit (codes "init" ∷ codes "moves.log" ∷ codes "--quad" ∷ []) (codes "moves.log") 2
 makes_fours = inr (refl, refl)
 
--- a box of one column
+-- a box that is one column wide
 column : SpellsBox (codes "5") (codes "0") (codes "5") (codes "9") (record { lo = record { x = 5; y = 0 }; hi = record { x = 5; y = 9 } })
 unfolding is_between is_number
 column = record { lo_x = refl; lo_y = refl; hi_x = refl; hi_y = refl }
 
--- 4 is no upper bound for 5
+-- 4 is no upper bound for a box that begins at 5
 turned : number_in 5 4294967295 (codes "4") ≡ None
 unfolding is_between is_number
 turned = refl
 
--- a file doesn't follow itself
+-- a file can't follow itself
 abbrev alone : List (List ℕ)
 alone = codes "follow" ∷ codes "moves.log" ∷ codes "moves.log" ∷ []
 

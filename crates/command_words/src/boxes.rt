@@ -1,4 +1,4 @@
-//! The words that ask for the objects in a box.
+//! The words of `show`, which lists the objects in a box.
 ghost use Rattle.std.specs.Prelude.{◌≡◌, map, MatchOption};
 ghost use Rattle.std.specs.String.{string_bytes};
 ghost use Rattle.csv_rows.specs.Numbers.{number_in};
@@ -8,7 +8,7 @@ use crate::files::is_word;
 use csv_rows::number_in;
 use zorder::{Point, Region};
 
-// The word in the place of a log's file, and the box.
+// The word for the log's file, and the box.
 #[derive(Clone, Copy, Drop)]
 pub(crate) struct ShowWords<'a> {
     pub(crate) log: &'a str,
@@ -48,7 +48,7 @@ fn box_in(x: &str, y: &str, a: &str, b: &str) -> Option<Region>
     })
 }
 
-// The coordinate of a word, where it is at least `low`.
+// Returns the coordinate that a word says, if it is at least `low`.
 fn coordinate_in(word: &str, low: u32) -> Option<u32>
     ensures { result ≡ number_in low 4294967295 word.now }
 {

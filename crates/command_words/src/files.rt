@@ -1,9 +1,9 @@
-//! Words that name files, and words that are known.
+//! Words that name files, and comparison of words.
 ghost use Rattle.std.specs.Prelude.{◌≡◌, ◌↔◌, IsTrue, MatchOption, map};
 ghost use Rattle.std.specs.String.{string_bytes};
 ghost use Rattle.command_words.specs.Words.{NamesFile, NamesNoFile, is_file_name};
 
-// The file that the words name behind a command.
+// Returns the file that the words name after a command.
 pub(crate) fn file_after<'a>(command: &str, words: &'a [String]) -> Option<&'a str>
     ensures { MatchOption result (NamesNoFile command.now (map string_bytes words.now))
         (λ file. NamesFile command.now (map string_bytes words.now) file.now) }

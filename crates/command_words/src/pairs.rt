@@ -1,18 +1,18 @@
-//! The words that name two files behind a command.
+//! The words of commands on two files.
 ghost use Rattle.std.specs.Prelude.{map, MatchOption};
 ghost use Rattle.std.specs.String.{string_bytes};
 ghost use Rattle.command_words.specs.Words.{NamesNoPair, NamesPair, SpellsNoPair, SpellsPair};
 
 use crate::files::{is_file_name, is_word};
 
-// The words in the places of two files.
+// The words for the two files.
 #[derive(Clone, Copy, Drop)]
 pub(crate) struct Pair<'a> {
     pub(crate) file: &'a str,
     pub(crate) new: &'a str,
 }
 
-// The two files that the words name behind a command, where their names differ.
+// Returns the two files that the words name after a command, if their names differ.
 pub(crate) fn pair_after<'a>(command: &str, words: &'a [String]) -> Option<Pair<'a>>
     ensures { MatchOption result (NamesNoPair command.now (map string_bytes words.now))
         (λ pair. NamesPair command.now (map string_bytes words.now) pair.file.now pair.new.now) }

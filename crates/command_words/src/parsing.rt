@@ -1,4 +1,4 @@
-//! What words ask for.
+//! From words to a command.
 ghost use Rattle.std.specs.Prelude.{map, MatchOption};
 ghost use Rattle.std.specs.String.{string_bytes};
 ghost use Rattle.command_words.specs.Words.{AsksFor, IsAccepted, IsInit, IsPlay, IsShow, IsTrial};
@@ -12,28 +12,28 @@ use crate::plays::play_words;
 use crate::trials::{Made, trial_words};
 use zorder::Region;
 
-/// What the words ask for.
+/// A command. A `None` in place of a file means that there is no log.
 #[derive(Clone, Copy, Drop)]
 pub enum Command<'a> {
-    /// To make a log in this file, whose splits make `2 ^ width` children: the width is 1, or 2 where it is asked for.
+    /// Creates a log in this file, whose splits make `2 ^ width` children. The width is 1, or 2 with `--quad`.
     Init(&'a str, u8),
-    /// To inspect the log in this file.
+    /// Inspects the log in this file.
     Check(&'a str),
-    /// To play rows, over the log in this file or over none, with buckets of this size.
+    /// Plays rows over the log in this file, or over none, with buckets of this size.
     Play(Option<&'a str>, u32),
-    /// To list the objects in this box, of the log in this file.
+    /// Lists the objects of the log in this file that are in this box.
     Show(&'a str, Region),
-    /// To play rows that are made, over the log in this file or over none.
+    /// Plays generated rows over the log in this file, or over none.
     Trial(Option<&'a str>, Made),
-    /// To write the log in the first file anew into the second, which has another name.
+    /// Writes the log in the first file from scratch into the second file, which has another name.
     Compact(&'a str, &'a str),
-    /// To tell who enters and leaves fences along the log in this file.
+    /// Reports which objects enter and leave fences along the log in this file.
     Watch(&'a str),
-    /// To have the second file, which has another name, follow the log in the first.
+    /// Makes the second file, which has another name, follow the log in the first file.
     Follow(&'a str, &'a str),
 }
 
-/// The command that the words ask for; `words` are the command line without the program's name.
+/// Returns the command of the words. `words` is the command line without the program's name.
 pub fn command_in(words: &[String]) -> Option<Command<'_>>
     ensures { MatchOption result (IsAccepted (map string_bytes words.now) → ⊥) (λ c. AsksFor (map string_bytes words.now) (command_of c)) }
 {
@@ -61,7 +61,7 @@ pub fn command_in(words: &[String]) -> Option<Command<'_>>
     play_in(words)
 }
 
-// What the words ask for, where it is to make a log.
+// Returns the command of the words, if it is `init`.
 fn init_in(words: &[String]) -> Option<Command<'_>>
     ensures { MatchOption result (IsInit (map string_bytes words.now) → ⊥) (λ c. AsksFor (map string_bytes words.now) (command_of c)) }
 {
@@ -74,7 +74,7 @@ fn init_in(words: &[String]) -> Option<Command<'_>>
     None
 }
 
-// What the words ask for, where it is to list objects.
+// Returns the command of the words, if it is `show`.
 fn show_in(words: &[String]) -> Option<Command<'_>>
     ensures { MatchOption result (IsShow (map string_bytes words.now) → ⊥) (λ c. AsksFor (map string_bytes words.now) (command_of c)) }
 {
@@ -87,7 +87,7 @@ fn show_in(words: &[String]) -> Option<Command<'_>>
     None
 }
 
-// What the words ask for, where it is to play rows.
+// Returns the command of the words, if it is `play`.
 fn play_in(words: &[String]) -> Option<Command<'_>>
     ensures { MatchOption result (IsPlay (map string_bytes words.now) → ⊥) (λ c. AsksFor (map string_bytes words.now) (command_of c)) }
 {
@@ -103,7 +103,7 @@ fn play_in(words: &[String]) -> Option<Command<'_>>
     None
 }
 
-// What the words ask for, where it is to play made rows.
+// Returns the command of the words, if it is `trial`.
 fn trial_in(words: &[String]) -> Option<Command<'_>>
     ensures { MatchOption result (IsTrial (map string_bytes words.now) → ⊥) (λ c. AsksFor (map string_bytes words.now) (command_of c)) }
 {

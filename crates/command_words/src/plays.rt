@@ -1,4 +1,4 @@
-//! The words that ask for rows to be played.
+//! The words of `play`, which plays rows.
 ghost use Rattle.std.specs.Prelude.{map, MatchOption};
 ghost use Rattle.std.specs.String.{string_bytes};
 ghost use Rattle.command_words.specs.Words.{SpellsNoPlay, SpellsNoSize, SpellsPlay, SpellsSize};
@@ -6,17 +6,17 @@ ghost use Rattle.command_words.specs.Words.{SpellsNoPlay, SpellsNoSize, SpellsPl
 use crate::files::is_word;
 use csv_rows::number_in;
 
-// The bucket size where the words give none.
+// The bucket size if the words give none.
 const BUCKET: u32 = 64;
 
-// The word in the place of a log's file, and the bucket size.
+// The word for the log's file, and the bucket size.
 #[derive(Clone, Copy, Drop)]
 pub(crate) struct PlayWords<'a> {
     pub(crate) log: &'a str,
     pub(crate) size: u32,
 }
 
-// The word for a log, and the bucket size: behind the word `--bucket` and a number, or nothing.
+// Returns the word for the log's file, and the bucket size: 64, or the number after `--bucket`.
 pub(crate) fn play_words(words: &[String]) -> Option<PlayWords<'_>>
     ensures { MatchOption result (SpellsNoPlay (map string_bytes words.now))
         (λ play. SpellsPlay (map string_bytes words.now) play.log.now play.size) }

@@ -1,4 +1,4 @@
-//! The words that ask for made rows to be played.
+//! The words of `trial`, which plays generated rows.
 ghost use Rattle.std.specs.Prelude.{map, MatchOption};
 ghost use Rattle.std.specs.String.{string_bytes};
 ghost use Rattle.command_words.specs.Words.{ReadsWord, SpellsMade, SpellsNoTrial, SpellsTrial};
@@ -6,14 +6,14 @@ ghost use Rattle.command_words.specs.Words.{ReadsWord, SpellsMade, SpellsNoTrial
 use crate::files::is_word;
 use csv_rows::number_in;
 
-/// Rows that are made: how many, and of which seed.
+/// Generated rows: how many, and their seed.
 #[derive(Clone, Copy, Debug, PartialEq, Eq)]
 pub struct Made {
     pub rows: u32,
     pub seed: u64,
 }
 
-// The word in the place of a log's file, and the rows.
+// The word for the log's file, and the rows.
 #[derive(Clone, Copy, Drop)]
 pub(crate) struct TrialWords<'a> {
     pub(crate) log: &'a str,

@@ -1,4 +1,4 @@
--- What a book's fields stand for, and what holds of them.
+-- What a book's fields stand for, and the invariant of a book.
 use Rattle.std.specs.Prelude.{◌≡◌, ℕ, ◌≤◌, None, length}
 use Rattle.plain_list.specs.State.{State, IsLegal, state_after}
 use Rattle.plain_list.specs.History.{failed_cell}
@@ -15,8 +15,8 @@ use Rattle.commit_book.specs.declared.book.Book.TheInside.{Inside}
 abbrev pub book_of : {I D P : Type 0} → Inside I D P → BookView D
 book_of b = record { leaves = b.table.leaves; opening = b.opening; entries = b.history.entries; bucket = b.table.size; log = b.journal }
 
--- The table and the open splits are those of the history's state, where the book began at the state o. While no append has failed, an entry
--- has room for each open split.
+-- The table and the open splits are those of the history's state, if the book began at the state o. While no append has
+-- failed, the history has memory for the entry that ends each open split.
 pub record IsInside {I D P : Type 0} (drive : D → Drive) (w : ℕ) (o : State) (b : Inside I D P) : Type 0 where
   pub opening : IsOpening w o
   pub legal : IsLegal w o b.history.entries

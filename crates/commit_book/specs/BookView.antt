@@ -1,4 +1,4 @@
--- What a clause sees of a book.
+-- What contracts see of a book.
 use Rattle.std.specs.Prelude.{ℕ, ◌+◌, List, Option, None}
 use Rattle.index_layer.specs.Leaves.{Leaf}
 use Rattle.index_layer.specs.Stands.{Stands}
@@ -9,8 +9,7 @@ use Rattle.plain_list.specs.State.{State, state_after}
 use Rattle.split_log.specs.LogView.{LogView}
 use Rattle.kept_log.specs.KeptView.{KeptView}
 
--- the leaves of the index, the state at which the book began, the history of this run, how many rows a bucket should have at most, and the
--- log
+-- The leaves of the index, the state at which the book began, the history since, the bucket size in rows, and the log.
 pub record BookView (D : Type 0) : Type 0 where
   pub leaves : List Leaf
   pub opening : State
@@ -22,10 +21,10 @@ pub record BookView (D : Type 0) : Type 0 where
 abbrev pub next_number : {D : Type 0} → ℕ → BookView D → ℕ
 next_number w b = (state_after w b.opening b.entries).begun + 1
 
--- leaves stand for the world after the history, and have the names of that state
+-- these leaves stand for the world after the history, and have the leaf names of its state
 abbrev pub StandsAfter : {D : Type 0} → ℕ → BookView D → List Leaf → Type 0
 StandsAfter w b leaves = Stands leaves (places_of (world_after b.opening.world b.entries)) (state_after w b.opening b.entries).leaves
 
--- a log as it was opened on this drive, with no cell more
+-- a log as it was opened on this drive, with no record more
 abbrev pub first_log : {D : Type 0} → LogView D → D → KeptView D
 first_log log start = record { disk = log.disk; cells = log.cells; failed = None; start = start; first = log.cells }

@@ -1,4 +1,4 @@
--- What holds of the entries of a run.
+-- The invariant of the entries of a run.
 use Rattle.std.specs.Prelude.{◌≡◌, ◌+◌, ◌≤◌, length, vec_capacity}
 use Rattle.plain_list.specs.History.{call_count}
 use Rattle.commit_book.specs.Events.{Events}

@@ -1,4 +1,4 @@
--- What holds of each book.
+-- The invariant of each book.
 use Rattle.std.specs.Prelude.{◌≡◌, ℕ, ◌≤◌, [], length, Some}
 use Rattle.plain_list.specs.World.{places_of}
 use Rattle.plain_list.specs.State.{State, ComesBySplits, IsLegal, state_after}
@@ -15,20 +15,20 @@ use Rattle.commit_book.specs.Room.{BeginsInRoom}
 abbrev pub most_events : ℕ
 most_events = 4194304
 
--- the most splits that were begun before a book that begins: 2 ^ 62
+-- the most splits that may have begun before a book: 2 ^ 62
 abbrev pub most_begun : ℕ
 most_begun = 4611686018427387904
 
--- a state at which a book may begin: no split is open, so few were begun that the numbers of those of its history fit in 64 bits, and its
--- leaves come by splits into children of w bits more
+-- A state at which a book may begin. No split is open. The numbers of later splits fit in 64 bits. The leaves come by
+-- splits into children of w bits each.
 pub record IsOpening (w : ℕ) (s : State) : Type 0 where
   pub rests : s.splits ≡ []
   pub begun : s.begun ≤ most_begun
   pub comes : ComesBySplits w s.leaves
 
--- The history is legal from the state at which the book began, the index stands for its world, with its leaves, and the base of each leaf
--- whose split is open has exactly the rows that stood there when it was begun. Each split was begun where there was room. The log keeps the
--- history, where there is one, and an append that failed names its number of cells.
+-- The history is legal from the state at which the book began, and the index stands for its world, with its leaves. The
+-- base of each leaf whose split is open has exactly the leaf's rows at the begin. Each split began while there was
+-- room. If there is a log, it keeps the history, and a failed append names its number of records.
 pub record IsBook {D : Type 0} (drive : D → Drive) (w : ℕ) (b : BookView D) : Type 0 where
   pub opening : IsOpening w b.opening
   pub legal : IsLegal w b.opening b.entries
@@ -39,13 +39,13 @@ pub record IsBook {D : Type 0} (drive : D → Drive) (w : ℕ) (b : BookView D) 
   pub on_log : KeepsIn drive w b.opening b.entries b.log
   pub named : (n : ℕ) → failed_cell b.entries ≡ Some n → n ≡ cells_in b.log
 
--- the same state at which the book began, size of its buckets, and opening of its log: what no call changes but a renewal or a rotation
+-- the same opening state, bucket size and opening of the log: only a renewal or a rotation changes these
 pub record SameOrigin {D : Type 0} (old new : BookView D) : Type 0 where
   pub opening : new.opening ≡ old.opening
   pub bucket : new.bucket ≡ old.bucket
   pub log : IsSinceIn old.log new.log
 
--- both books are, before a call and after it
+-- both are books, before a call and after it
 pub record AreBooks {D : Type 0} (drive : D → Drive) (w : ℕ) (old new : BookView D) : Type 0 where
   pub before : IsBook drive w old
   pub after : IsBook drive w new

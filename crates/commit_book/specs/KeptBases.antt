@@ -1,4 +1,4 @@
--- What stands under a leaf while its split is open.
+-- The base under a leaf while its split is open.
 use Rattle.std.specs.Prelude.{◌≡◌, ℕ, ◌&&◌, Bool, List, ◌∷◌, ◌++◌, Some}
 use Rattle.zorder.specs.Key.{is_under}
 use Rattle.zorder.specs.declared.points.Placed.{Placed}
@@ -12,7 +12,7 @@ use Rattle.plain_list.specs.State.{State, split_name, state_after}
 use Rattle.plain_list.specs.World.{places_of}
 use Rattle.plain_list.specs.History.{world_after}
 
--- the base of a leaf has the rows of a world that are under its name, in order, and no others
+-- the base of a leaf has exactly the rows of a world that are under its name, in order
 pub record HasBaseOf (places : List Placed) (leaf : Leaf) : Type 0 where
   pub in_order : IsRows leaf.bucket.base
   pub rows : (r : Row) → has_row r leaf.bucket.base ≡ (places_have places r && is_under leaf.name r.key)
@@ -23,7 +23,7 @@ pub record KeepsBase (leaves : List Leaf) (places : List Placed) (name : List Bo
   pub named : leaf_named name leaves ≡ Some leaf
   pub base : HasBaseOf places leaf
 
--- each leaf whose split is still open has the base of the world in which it was begun
+-- each leaf whose split is still open has as its base the rows of the world in which the split began
 abbrev pub KeepsBases : ℕ → State → List Leaf → List Entry → Type 0
 KeepsBases w s leaves entries =
     (before after : List Entry) (number : ℕ) (name : List Bool) → entries ≡ before ++ Begin number name ∷ after

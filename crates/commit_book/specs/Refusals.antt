@@ -1,4 +1,4 @@
--- Why a call of a book is refused: the cause that comes first.
+-- Why a call of a book is refused: the first cause that applies.
 use Rattle.std.specs.Prelude.{◌≡◌, ◌⊎◌, ℕ, ◌+◌, nat_lt, ◌==◌, Bool, true, false, not, ◌&&◌, List, [], ◌∷◌, ◌++◌, length, if◌then◌else◌, Option, Some, None, is_some, Result, Ok, Err, ⊤}
 use Rattle.std.specs.Option.{option_map, option_map_or}
 use Rattle.zorder.specs.SameName.{same_name}
@@ -36,22 +36,22 @@ IsMemory fault = fault ≡ Memory
 abbrev pub IsMemoryOrDisk : BookFault → Type 0
 IsMemoryOrDisk fault = IsMemory fault ⊎ IsDisk fault
 
--- nothing else comes in the way
+-- no fault except the cause
 abbrev pub IsNoFault : BookFault → Type 0
 IsNoFault fault = ⊥
 
--- the call is refused by this cause; where there is none, it is done, or a fault came in the way that is free to come
+-- the call is refused by this cause; if there is none, it returns Ok, or a fault of the kind that is free to come
 abbrev pub IsRefusedBy : {A : Type 0} → (BookFault → Type 0) → Option BookFault → Result A BookFault → Type 0
 IsRefusedBy IsFree (Some cause) result = result ≡ Err cause
 IsRefusedBy IsFree None (Ok value) = ⊤
 IsRefusedBy IsFree None (Err fault) = IsFree fault
 
--- a call that was lost would be a change there
+-- a lost call would have changed the world
 abbrev pub WouldChange : {D : Type 0} → BookView D → Lost → Type 0
 WouldChange b (lost.Call session row op) = is_change (answer_of (world_after b.opening.world b.entries) op) ≡ true
 WouldChange b _ = ⊤
 
--- The append of a cell failed: the book has the one entry that carries the lost step, and is closed.
+-- The append of a record failed. The history ends with the entry of the lost step, and the book is closed.
 pub record Closes {D : Type 0} (drive : D → Drive) (lost : Lost) (old new : BookView D) (cell : ℕ) : Type 0 where
   pub entries : new.entries ≡ old.entries ++ Fail cell lost ∷ []
   pub cell_is : cell ≡ cells_in old.log
@@ -59,12 +59,12 @@ pub record Closes {D : Type 0} (drive : D → Drive) (lost : Lost) (old new : Bo
   pub rose : RoseIn drive old.log new.log
   pub change : WouldChange old lost
 
--- what a refused call leaves: where the drive failed, a closed book, and else the book as it was
+-- what a refused call leaves: a closed book if the drive failed, and else the unchanged book
 abbrev pub LeavesRefused : {D : Type 0} → (D → Drive) → Lost → BookView D → BookView D → BookFault → Type 0
 LeavesRefused drive lost old new (Disk cell) = Closes drive lost old new cell
 LeavesRefused drive lost old new _ = new ≡ old
 
--- the cause that comes first
+-- the first cause, or the later one if there is no first
 abbrev pub first_of : Option BookFault → Option BookFault → Option BookFault
 first_of (Some cause) later = Some cause
 first_of None later = later
@@ -76,15 +76,15 @@ closed_refusal entries = option_map Closed (failed_cell entries)
 abbrev pub events_refusal : List Entry → Option BookFault
 events_refusal entries = if length entries == most_events then Some HistoryFull else None
 
--- a query
+-- why a query is refused
 abbrev pub call_refusal : List Entry → Option BookFault
 call_refusal entries = first_of (closed_refusal entries) (events_refusal entries)
 
--- the end of a split
+-- why the end of a split is refused
 abbrev pub end_refusal : ℕ → List Entry → Option BookFault
 end_refusal cells entries = first_of (call_refusal entries) (if cells == most_cells then Some LogFull else None)
 
--- a change or a find; a find, or a call that changes nothing, has no cell
+-- why a change or a find is refused; a find, and a call that changes nothing, needs no record
 abbrev pub update_refusal : {D : Type 0} → BookView D → Op → Option BookFault
 update_refusal b op =
     first_of (call_refusal b.entries)
@@ -95,7 +95,7 @@ abbrev pub split_number : List OpenSplit → List Bool → Option ℕ
 split_number [] name = None
 split_number (s ∷ splits) name = if same_name s.name name then Some s.number else split_number splits name
 
--- a split at a state with room
+-- why the begin of a split is refused at a state, if there is room
 abbrev pub leaf_refusal : ℕ → State → List Bool → Option BookFault
 leaf_refusal w s name =
     if not (is_leaf s.leaves name) then Some NoLeaf
@@ -105,7 +105,7 @@ leaf_refusal w s name =
 abbrev pub room_refusal : ℕ → ℕ → Option BookFault
 room_refusal cells events = if has_no_room cells events then Some (Room cells events) else None
 
--- the begin of a split
+-- why the begin of a split is refused
 abbrev pub begin_refusal : {D : Type 0} → ℕ → BookView D → List Bool → Option BookFault
 begin_refusal w b name =
     first_of (closed_refusal b.entries) (first_of (room_refusal (cells_in b.log) (length b.entries)) (leaf_refusal w (state_after w b.opening b.entries) name))
@@ -114,11 +114,11 @@ begin_refusal w b name =
 abbrev pub is_open : List OpenSplit → ℕ → List Bool → Bool
 is_open splits number name = option_map_or (λ (n : List Bool). same_name n name) (split_name splits number) false
 
--- whether the leaf of this name has this base
+-- whether the leaf of this name exists and has this base
 abbrev pub has_base : List Leaf → List Bool → List Row → Bool
 has_base leaves name base = option_map_or (λ (l : Leaf). same_rows l.bucket.base base) (leaf_named name leaves) false
 
--- the install of a split with this number and name, for which this base was cut
+-- why the install of a split with this number, name and base is refused
 abbrev pub install_refusal : {D : Type 0} → ℕ → BookView D → ℕ → List Bool → List Row → Option BookFault
 install_refusal w b number name base =
     first_of (end_refusal (cells_in b.log) b.entries)
@@ -127,7 +127,7 @@ install_refusal w b number name base =
 abbrev pub prepared_refusal : {D : Type 0} → ℕ → BookView D → PreparedView → Option BookFault
 prepared_refusal w b p = install_refusal w b p.number p.name p.base
 
--- the abandonment of a split
+-- why the abandonment of a split is refused
 abbrev pub abandon_refusal : {D : Type 0} → ℕ → BookView D → ℕ → Option BookFault
 abandon_refusal w b number =
     first_of (end_refusal (cells_in b.log) b.entries) (if is_some (split_name (state_after w b.opening b.entries).splits number) then None else Some (NotOpen number))

@@ -1,4 +1,4 @@
--- A book that goes on over another log.
+-- A book that continues on another log.
 use Rattle.std.specs.Prelude.{◌≡◌, ℕ, List, [], Some}
 use Rattle.index_layer.specs.Leaves.{Leaf, names_of}
 use Rattle.plain_list.specs.History.{world_after}
@@ -9,18 +9,18 @@ use Rattle.recovery.specs.declared.seen.Seen.{Seen}
 use Rattle.kept_log.specs.Kept.{found_state}
 use Rattle.commit_book.specs.BookView.{BookView, first_log}
 
--- what was found in a log has the objects and the leaves of a book
+-- the content found in a log has the objects and the leaves of a book
 pub record HasContent {D : Type 0} (w : ℕ) (b : BookView D) (seen : Seen) : Type 0 where
   pub world : seen.world ≡ world_after b.opening.world b.entries
   pub leaves : seen.leaves ≡ (state_after w b.opening b.entries).leaves
 
--- or its objects, and leaves anew, which the bucket size asks of them
+-- the content found in a log has the objects of a book, and fresh leaves that the bucket size requires for them
 pub record HasContentAnew {D : Type 0} (w : ℕ) (b : BookView D) (leaves : List Leaf) (seen : Seen) : Type 0 where
   pub world : seen.world ≡ world_after b.opening.world b.entries
   pub leaves_are : seen.leaves ≡ names_of leaves
   pub stands : StandsBySize w b.bucket (world_after b.opening.world b.entries) leaves
 
--- a book of these leaves and bucket size over a log, as it was opened on this drive: at the state that was found in it, with no entry
+-- a book of these leaves and bucket size on a log opened on this drive: it begins at the state found, with no entry
 abbrev pub book_on : {D : Type 0} → Seen → LogView D → D → List Leaf → ℕ → BookView D
 book_on seen log start leaves bucket = record {
   leaves = leaves;
@@ -30,6 +30,6 @@ book_on seen log start leaves bucket = record {
   log = Some (first_log log start);
 }
 
--- the same leaves and bucket size over such a log
+-- the same leaves and bucket size on such a log
 abbrev pub rotated : {D : Type 0} → Seen → LogView D → D → BookView D → BookView D
 rotated seen log start b = book_on seen log start b.leaves b.bucket

@@ -7,6 +7,6 @@ use Rattle.commit_book.specs.declared.open_splits.OpenSplits.TheInside.{Inside}
 abbrev pub opens_of : Inside → SplitsView
 opens_of s = record { splits = splits_of s.splits.items; begun = s.begun; room = s.room }
 
--- as much memory as was promised
+-- the vector has the capacity for the promised room
 abbrev pub HasRoom : Inside → Type 0
 HasRoom s = length s.splits.items + s.room ≤ vec_capacity s.splits

@@ -1,4 +1,4 @@
-//! The book: an index, a map by id, the history of a run and its log, kept in step.
+//! The book: an index, a map by id, the history of a run and its log, kept consistent with each other.
 ghost use Rattle.std.specs.Prelude.{◌≡◌, ◌^◌, ◌<◌, true, false, [], Some, None, is_some, length, IfOk, IfErr};
 ghost use Rattle.index_layer.specs.Leaves.{names_of};
 ghost use Rattle.plain_list.specs.Size.{full_leaf};
@@ -42,47 +42,48 @@ use zorder::{Memory, Name};
 /// The most entries of a history.
 pub const MOST_EVENTS: u64 = 4_194_304;
 
-/// A book's answer to a change or a find.
+/// What a book returns for a change or a find.
 #[derive(Drop)]
 pub struct Done {
     /// The number of the call among the calls of this run, from 1.
     pub place: u64,
-    /// What one plain list answers there.
+    /// The answer of the plain list after the calls before this one.
     pub answer: Answer,
-    /// The leaf that is to be split next.
+    /// The leaf to split next, or `None` if no leaf needs a split.
     pub full: Option<Name>,
 }
 
-/// An index as it stood at a call.
+/// The index as it was at a call.
 #[derive(Drop)]
 pub struct Snapshot<I: Index> {
-    /// The index, which later steps leave as it is.
+    /// The index. Later steps of the book don't change it.
     pub index: I,
     /// The number of the call among the calls of this run, from 1.
     pub place: u64,
 }
 
-/// What a book was made of.
+/// What a book is taken apart into.
 #[derive(Drop)]
 pub struct BookParts<I: Index, D: LogDisk> {
     /// The index at the end.
     pub index: I,
-    /// The drive of the log, where there is one.
+    /// The drive of the log, if there is a log.
     pub disk: Option<D>,
     /// The history of the run.
     pub entries: Entries,
 }
 
-/// The sequential core of the store. A change or a step of a split is done once its cell is in the log, where there is one.
+/// The sequential core of the store. A change or a step of a split is made after its record is in the log, if there is
+/// a log.
 #[derive(Drop)]
 pub struct Book<I: Index, D: LogDisk> {
-    /// The objects as the whole history leaves them.
+    /// The objects after the whole history.
     table: PointTable<I>,
-    /// The splits that were begun and haven't ended.
+    /// The splits that have begun and not ended.
     splits: OpenSplits,
-    /// The entries, in their order.
+    /// The entries, in order.
     history: History,
-    /// The log, where there is one.
+    /// The log, if there is one.
     journal: Journal<D>,
     /// The world and the leaves at which the book began, for contracts alone.
     opening: Opening<I>,
@@ -101,7 +102,7 @@ impl<I: Index, D: LogDisk> Model for Book<I, D> {
 }
 
 impl<I: Index, D: LogDisk> Book<I, D> {
-    /// A book with no points, no entries and no log. `bucket` is from 4 to 4,096.
+    /// Creates a book without objects, entries and log. `bucket` is 4 to 4,096 rows.
     pub fn fresh(alloc: Global, bucket: u32) -> Result<Book<I, D>, Memory>
         ensures { IfOk result (λ b. (b.opening ≡ empty_state) × (b.entries ≡ []) × (b.bucket ≡ bucket) × (b.log ≡ None)) }
     {
@@ -115,8 +116,8 @@ impl<I: Index, D: LogDisk> Book<I, D> {
         })
     }
 
-    /// A book that goes on with a log as it was opened: with its points and leaves, no open split and no entries. `bucket` is from 4 to
-    /// 4,096. Where memory runs out, what was opened is handed back.
+    /// Creates a book on an opened log, with the objects and leaves found there, no open split and no entries. `bucket`
+    /// is 4 to 4,096 rows. If memory runs out, `Err` returns what was opened.
     pub fn opened(alloc: Global, opened: Opened<D>, bucket: u32) -> Result<Book<I, D>, Opened<D>>
         requires { IsOpenedLog D.drive I.WIDTH opened.seen opened.start.value opened.log }
         ensures opening { IfOk result (λ b. (b.opening ≡ found_state opened.seen) × (b.entries ≡ []) × (b.bucket ≡ bucket)) }
@@ -130,14 +131,15 @@ impl<I: Index, D: LogDisk> Book<I, D> {
         Ok(on_log(alloc, table, opened))
     }
 
-    /// Takes room for so many more entries at once, where there is memory for it, so that the history needn't be moved as it grows.
+    /// Tries to take memory for this many more entries at once, so that the history is not moved as it grows. If memory
+    /// is short, nothing happens.
     pub fn make_room(&mut self, entries: usize)
         ensures { self.new ≡ self.old }
     {
         self.history.make_room(entries);
     }
 
-    /// How many entries there are.
+    /// How many entries the history has. The second clause states what holds of each book.
     pub fn events(&self) -> u64
         ensures events { result ≡ length self.now.entries }
         ensures book { IsBook D.drive I.WIDTH self.now }
@@ -146,14 +148,14 @@ impl<I: Index, D: LogDisk> Book<I, D> {
         self.history.len() as u64
     }
 
-    /// Whether there is a log, whose device each change waits for.
+    /// Whether there is a log. If so, each change waits for its device.
     pub fn has_log(&self) -> bool
         ensures { result ≡ is_some self.now.log }
     {
         self.journal.has_log()
     }
 
-    /// How many cells the log has: 0 without a log.
+    /// How many records the log has: 0 without a log.
     pub fn cells(&self) -> u64
         ensures cells { result ≡ cells_in self.now.log }
         ensures book { IsBook D.drive I.WIDTH self.now }
@@ -162,7 +164,7 @@ impl<I: Index, D: LogDisk> Book<I, D> {
         self.journal.cells()
     }
 
-    /// The cell whose append failed, where one did: the book takes no more calls.
+    /// The record whose append failed, or `None`. After a failure the book takes no more calls.
     pub fn closed(&self) -> Option<u64>
         ensures closed { result ≡ failed_cell self.now.entries }
         ensures book { IsBook D.drive I.WIDTH self.now }
@@ -171,15 +173,15 @@ impl<I: Index, D: LogDisk> Book<I, D> {
         self.journal.closed()
     }
 
-    // Tells what the type keeps.
+    // Makes the type's invariant known to the checker.
     fn keep(&self)
         ensures { IsBook D.drive I.WIDTH self.now }
     {
-        // The table tells that its index stands for its world.
+        // Calling `len` makes it known that the table's index stands for its world.
         let _points = self.table.len();
     }
 
-    /// The first leaf in key order that has more than `bucket` points, bits left and no open split.
+    /// The first leaf in key order that has more rows than the bucket size, bits left and no open split.
     pub fn full(&self) -> Option<Name>
         ensures full { result ≡ full_leaf I.WIDTH self.now.bucket (state_after I.WIDTH self.now.opening self.now.entries) }
         ensures book { IsBook D.drive I.WIDTH self.now }
@@ -188,7 +190,7 @@ impl<I: Index, D: LogDisk> Book<I, D> {
         self.table.first_free(self.splits.as_slice())
     }
 
-    /// Answers a change or a find, and notes the call. All memory is taken before the log is written.
+    /// Executes a change or a find, and appends its entry. All memory is taken before the log is written.
     pub fn update(&mut self, session: u8, row: u32, op: &Op) -> Result<Done, BookFault>
         requires { IsUpdate op.now }
         ensures ok { IfOk result (λ d. Replies I.WIDTH self.old self.new session row op.now d.place d.answer d.full) }
@@ -244,7 +246,7 @@ impl<I: Index, D: LogDisk> Book<I, D> {
         Ok(())
     }
 
-    /// Notes a query that is answered outside, and gives its place.
+    /// Appends the entry of a query that is answered elsewhere, and returns its place.
     pub fn note(&mut self, session: u8, row: u32, op: &Op) -> Result<u64, BookFault>
         requires { IsQuery op.now }
         ensures ok { IfOk result (λ place. Notes self.old self.new session row op.now place) }
@@ -263,7 +265,7 @@ impl<I: Index, D: LogDisk> Book<I, D> {
         Ok(place)
     }
 
-    /// Notes a query that is answered outside, and hands out the index as it is.
+    /// Appends the entry of a query that is answered elsewhere, and returns the index at that place.
     pub fn snapshot(&mut self, session: u8, row: u32, op: &Op) -> Result<Snapshot<I>, BookFault>
         requires { IsQuery op.now }
         ensures ok { IfOk result (λ s. Notes self.old self.new session row op.now s.place) }
@@ -280,7 +282,7 @@ impl<I: Index, D: LogDisk> Book<I, D> {
         Ok(Snapshot { index, place })
     }
 
-    /// Hands out the index as it is, for queries that are noted once they are answered.
+    /// Returns an equal index, for queries whose entries are appended after they are answered.
     pub fn glance(&self) -> Result<I, Memory>
         ensures index { IfOk result (λ index. StandsAfter I.WIDTH self.now (I.leaves index)) }
         ensures leaves { IfOk result (λ index. I.leaves index ≡ self.now.leaves) }
@@ -290,14 +292,15 @@ impl<I: Index, D: LogDisk> Book<I, D> {
         self.table.share()
     }
 
-    /// Whether no entry behind the first so many may have changed the objects, so that the world is the one after those.
+    /// Whether no entry after the first `events` may have changed the objects. Then the world is still the one after
+    /// those.
     pub fn is_still_since(&self, events: u64) -> bool
         ensures { result ≡ is_still_since events self.now.entries }
     {
         self.history.is_still_since(events as usize)
     }
 
-    /// The parts that the book holds.
+    /// Takes the book apart.
     pub fn into_parts(self) -> BookParts<I, D>
         ensures leaves { I.leaves result.index ≡ self.leaves }
         ensures disk { result.disk ≡ disk_in self.log }
@@ -311,7 +314,7 @@ impl<I: Index, D: LogDisk> Book<I, D> {
     }
 }
 
-// A book with no entries over a log as it was opened, where a table stands as was found there.
+// A book without entries on an opened log, with a table of what was found there.
 fn on_log<I: Index, D: LogDisk>(
     alloc: Global,
     table: PointTable<I>,
@@ -332,7 +335,7 @@ fn on_log<I: Index, D: LogDisk>(
     }
 }
 
-// Notes a call that changed nothing. One that did was noted with its cell.
+// Appends the entry of a call that changed nothing. A change got its entry with its record.
 fn note_quiet(history: &mut History, answer: &Answer, call: Entry)
     requires { is_change answer.now ≡ false → (0 < history.old.room) × (length history.old.entries < 2 ^ 63) }
     ensures noted { is_change answer.now ≡ true → history.new ≡ history.old }

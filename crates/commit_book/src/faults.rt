@@ -5,30 +5,32 @@ use std::alloc::AllocError;
 use thiserror::Error;
 use zorder::Memory;
 
-/// Why a book did nothing. After each but `Disk` the book is as it was. A book without a log never answers `Closed`, `Disk` or `LogFull`.
+/// Why a call of a book did nothing. After each fault except `Disk` the book is unchanged. A book without a log never
+/// returns `Closed`, `Disk` or `LogFull`.
 #[derive(Clone, Copy, Debug, PartialEq, Eq)]
 pub enum BookFault {
-    /// An earlier call answered `Disk` for this cell.
+    /// An earlier call returned `Disk` for this record.
     Closed {
-        /// The cell whose append failed.
+        /// The record whose append failed, counted from 0.
         cell: u64,
     },
-    /// The drive failed while this cell was appended. From then on the book is closed: its last entry says which step was lost.
+    /// The drive failed during the append of this record. From now on the book is closed, and its last entry has the
+    /// lost step.
     Disk {
-        /// The cell whose append failed, which may stand in the log or not.
+        /// The record whose append failed, counted from 0. The log may have it or not.
         cell: u64,
     },
-    /// There are 4,194,304 events.
+    /// The history has 4,194,304 entries.
     HistoryFull,
-    /// The log has 16,777,216 cells, and the step would need one.
+    /// The log has 16,777,216 records, and the step needs one.
     LogFull,
-    /// Memory ran out.
+    /// Memory ran out. The log was not written.
     Memory,
-    /// There are more than 16,000,000 cells or 4,000,000 events, so no split begins any more.
+    /// The log has more than 16,000,000 records, or the history more than 4,000,000 entries, so no split begins.
     Room {
-        /// How many cells the log has: none without a log.
+        /// How many records the log has: 0 without a log.
         cells: u64,
-        /// How many events there are.
+        /// How many entries the history has.
         events: u64,
     },
     /// The leaf has an open split.
@@ -36,35 +38,35 @@ pub enum BookFault {
         /// The number of that split.
         number: u64,
     },
-    /// The leaf's name leaves no bits to its children.
+    /// The leaf's name has too few bits left for its children's names.
     Deep,
-    /// No leaf has the name.
+    /// No leaf has this name.
     NoLeaf,
-    /// What was prepared isn't of an open split any more, or was cut out of other rows.
+    /// The split that was prepared is no longer open, or its parts were cut out of other rows than the leaf's base.
     Stale {
-        /// The number that was prepared.
+        /// The number of the prepared split.
         number: u64,
     },
     /// No open split has the number.
     NotOpen {
-        /// The number that was given.
+        /// The number that the caller passed.
         number: u64,
     },
 }
 
-/// Why a book wasn't renewed. It is as it was.
+/// Why a book was not renewed. The book is unchanged.
 #[derive(Clone, Copy, Debug, PartialEq, Eq, Error)]
 pub enum RenewFault {
-    /// An earlier call answered `Disk` for this cell, so the history has ended.
+    /// An earlier call returned `Disk` for this record, so the history has ended.
     #[error("the append of record {cell} has failed")]
     Closed {
-        /// The cell whose append failed.
+        /// The record whose append failed, counted from 0.
         cell: u64,
     },
-    /// So many splits were begun, in this history and before it, that the number of a further one need not fit in 64 bits.
+    /// So many splits were begun, in this history and before it, that the next number may not fit in 64 bits.
     #[error("{splits} splits were begun, too many for a further history")]
     Begun {
-        /// How many: more than 4,611,686,018,427,387,904.
+        /// How many splits were begun: more than 4,611,686,018,427,387,904.
         splits: u64,
     },
 }

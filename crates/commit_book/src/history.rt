@@ -1,4 +1,4 @@
-//! The entries of a run, with room for those that are promised.
+//! The entries of a run, with memory for those that are promised.
 ghost use Rattle.std.specs.Prelude.{◌≡◌, ◌+◌, ◌-◌, ◌<◌, ◌≤◌, ◌∷◌, ◌++◌, ◌^◌, [], OnOk, OnErr, length, vec_len, vec_capacity};
 ghost use Rattle.plain_list.specs.History.{call_count};
 ghost use Rattle.std.specs.List.{list_all};
@@ -9,7 +9,7 @@ use plain_list::{Entry, Lost, Op};
 use std::alloc::{AllocError, Global};
 use std::marker::Model;
 
-/// Entries, and how many more are sure to find room.
+/// The entries, and how many more fit without taking memory.
 #[derive(Drop)]
 pub(crate) struct History {
     entries: Vec<Entry>,
@@ -46,14 +46,14 @@ impl History {
         self.entries.len()
     }
 
-    /// How many calls there are.
+    /// How many entries are calls.
     pub(crate) fn calls(&self) -> u64
         ensures { result ≡ call_count self.now.entries }
     {
         self.calls
     }
 
-    /// Whether each entry behind the first so many leaves any world as it is.
+    /// Whether each entry after the first `events` leaves every world unchanged.
     pub(crate) fn is_still_since(&self, events: usize) -> bool
         ensures { result ≡ is_still_since events self.now.entries }
     {
@@ -63,7 +63,7 @@ impl History {
         }
     }
 
-    /// Makes room for so many entries.
+    /// Makes room for this many more entries.
     pub(crate) fn reserve(&mut self, entries: usize) -> Result<(), AllocError>
         requires { length self.old.entries + entries < 2 ^ 63 }
         ensures ok { OnOk result (self.new ≡ record self.old { room = entries }) }
@@ -74,14 +74,14 @@ impl History {
         Ok(())
     }
 
-    /// Takes room for so many more at once, where there is memory for it.
+    /// Tries to take memory for this many more entries at once. If memory is short, nothing happens.
     pub(crate) fn make_room(&mut self, entries: usize)
         ensures { self.new ≡ self.old }
     {
         let _ = self.entries.reserve(entries);
     }
 
-    /// Appends an entry, for which there is room.
+    /// Appends an entry, which uses one place of the room.
     pub(crate) fn push(&mut self, entry: Entry)
         requires room { 0 < self.old.room }
         requires few { length self.old.entries < 2 ^ 63 }
@@ -99,7 +99,7 @@ impl History {
     }
 }
 
-// 1 for a call, and 0 for another step.
+// 1 for a call, and 0 for any other entry.
 fn calls_in(entry: &Entry) -> u64
     ensures { result ≡ call_count (entry.now ∷ []) }
 {
@@ -123,7 +123,7 @@ fn are_still(entries: &[Entry]) -> bool
     true
 }
 
-// Whether an entry leaves any world as it is: a query, a find, or a step of a split.
+// Whether an entry leaves every world unchanged: a query, a find, or a step of a split.
 fn is_still(entry: &Entry) -> bool
     ensures { result ≡ is_still entry.now }
 {
@@ -139,13 +139,13 @@ fn is_ask(op: &Op) -> bool
     matches!(op, Op::Find { .. } | Op::Within { .. } | Op::Near { .. })
 }
 
-// Pushes into memory that was taken before.
+// Pushes an entry into memory that is already there.
 fn push_within(entries: &mut Vec<Entry>, entry: Entry)
     requires { vec_len entries.old < vec_capacity entries.old }
     ensures items { entries.new.items ≡ entries.old.items ++ entry ∷ [] }
     ensures capacity { vec_capacity entries.old ≤ vec_capacity entries.new }
 {
-    // The checker wants each type that an entry holds named where one moves into a vector.
+    // The checker needs each type inside an entry to be named where an entry moves into a vector.
     let _lost: Option<Lost> = None;
     let _ = entries.push(entry);
 }

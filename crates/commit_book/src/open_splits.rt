@@ -1,4 +1,4 @@
-//! The splits that were begun and haven't ended.
+//! The splits that have begun and not ended.
 ghost use Rattle.std.specs.Prelude.{◌≡◌, ◌+◌, ◌-◌, ◌<◌, ◌^◌, ◌++◌, ◌∷◌, [], OnOk, length};
 ghost use Rattle.plain_list.specs.State.{split_name, without_number};
 ghost use Rattle.commit_book.specs.Refusals.{split_number, is_open};
@@ -9,7 +9,7 @@ use std::alloc::{AllocError, Global};
 use std::marker::Model;
 use zorder::Name;
 
-/// Open splits in the order of their begins, with room for one that is promised.
+/// Open splits in the order of their begins, with memory for one that is promised.
 #[derive(Drop)]
 pub(crate) struct OpenSplits {
     splits: Vec<Begun>,
@@ -30,7 +30,7 @@ impl Model for OpenSplits {
 }
 
 impl OpenSplits {
-    /// No open split, where so many were begun before.
+    /// No open split, after this many were begun.
     pub(crate) fn after(alloc: Global, begun: u64) -> OpenSplits
         ensures { result ≡ record { splits = []; begun = begun; room = 0 } }
     {
@@ -41,14 +41,14 @@ impl OpenSplits {
         }
     }
 
-    /// The open splits.
+    /// The open splits, in the order of their begins.
     pub(crate) fn as_slice(&self) -> &[Begun]
         ensures { splits_of result.now ≡ self.now.splits }
     {
         &self.splits
     }
 
-    /// How many are open.
+    /// How many splits are open.
     pub(crate) fn len(&self) -> usize
         ensures { result ≡ length self.now.splits }
     {
@@ -62,14 +62,14 @@ impl OpenSplits {
         number_among(&self.splits, name)
     }
 
-    /// The name of the open split of this number.
+    /// The name of the open split with this number.
     pub(crate) fn name(&self, number: u64) -> Option<Name>
         ensures { result ≡ split_name self.now.splits number }
     {
         name_among(&self.splits, number)
     }
 
-    /// Whether an open split has this number and this name.
+    /// Whether the open split with this number has this name.
     pub(crate) fn is_open(&self, number: u64, name: &Name) -> bool
         ensures { result ≡ is_open self.now.splits number name.now }
     {
@@ -79,7 +79,7 @@ impl OpenSplits {
         }
     }
 
-    /// Takes the memory of one split.
+    /// Makes room for one more split.
     pub(crate) fn reserve(&mut self) -> Result<(), AllocError>
         ensures splits { self.new.splits ≡ self.old.splits }
         ensures begun { self.new.begun ≡ self.old.begun }
@@ -91,14 +91,14 @@ impl OpenSplits {
         Ok(())
     }
 
-    /// How many were begun.
+    /// How many splits were ever begun.
     pub(crate) fn begun(&self) -> u64
         ensures { result ≡ self.now.begun }
     {
         self.begun
     }
 
-    /// The number of the split that is begun next.
+    /// The number of the split that begins next.
     pub(crate) fn next_number(&self) -> u64
         requires { self.now.begun < 2 ^ 63 }
         ensures { result ≡ self.now.begun + 1 }
@@ -106,7 +106,7 @@ impl OpenSplits {
         self.begun + 1
     }
 
-    /// Begins a split, for which memory was taken.
+    /// Begins a split, which uses one place of the room.
     pub(crate) fn push(&mut self, name: &Name)
         requires room { 0 < self.old.room }
         requires few { self.old.begun < 2 ^ 63 }
@@ -121,7 +121,7 @@ impl OpenSplits {
         });
     }
 
-    /// Ends a split.
+    /// Ends the split with this number.
     pub(crate) fn remove(&mut self, number: u64)
         ensures splits { self.new.splits ≡ without_number number self.old.splits }
         ensures begun { self.new.begun ≡ self.old.begun }

@@ -7,7 +7,7 @@ use point_table::PointTable;
 use std::marker::Model;
 use std::snapshot::Snapshot;
 
-/// The state at which a book began, for contracts alone.
+/// The state at which a book began. Only contracts see it.
 #[derive(Drop)]
 pub(crate) struct Opening<I: Index> {
     table: Snapshot<PointTable<I>>,
@@ -25,7 +25,7 @@ impl<I: Index> Model for Opening<I> {
 }
 
 impl<I: Index> Opening<I> {
-    /// The state of a table at which no split is open, where so many were begun before.
+    /// The state of a table with no split open, after this many were begun.
     pub(crate) fn of(table: &PointTable<I>, begun: u64) -> Opening<I>
         ensures { result ≡ record { world = table.now.world; leaves = names_of table.now.leaves; splits = []; begun = begun } }
     {

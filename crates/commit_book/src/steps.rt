@@ -1,4 +1,4 @@
-//! A step of a book: its cell goes to the log, and its entry to the history.
+//! A step of a book: its record goes to the log, and its entry to the history.
 ghost use Rattle.std.specs.Prelude.{◌≡◌, ◌∷◌, [], MatchOption};
 ghost use Rattle.log_state.specs.Changes.{change_cells, lost_cells};
 ghost use Rattle.commit_book.specs.Steps.{entry_of, fault_of, CanStep, Takes, Loses};
@@ -11,8 +11,8 @@ use disk_trait::LogDisk;
 use kept_log::Journal;
 use plain_list::{Entry, Lost, Op};
 
-/// A step that a change of a table waits for: its cell goes to the log, where there is one, and then its entry to the history. Where the
-/// drive fails the history gets the entry of the lost step.
+/// A step that a change of a table waits for. Its record goes to the log, if there is one, and then its entry to the
+/// history. If the drive fails, the history gets the entry of the lost step.
 #[derive(Drop)]
 pub(crate) struct Step<'a, D: LogDisk> {
     pub(crate) history: &'a mut History,
@@ -48,7 +48,7 @@ impl<'a, D: LogDisk> Commit for Step<'a, D> {
     }
 }
 
-/// Why a change that wasn't made is refused, where this was the log's next cell.
+/// The fault for a change that was not made, where `cell` is the log's next record.
 pub(crate) fn fault_of(undone: Undone, cell: u64) -> BookFault
     ensures { result ≡ fault_of undone cell }
 {
@@ -58,7 +58,7 @@ pub(crate) fn fault_of(undone: Undone, cell: u64) -> BookFault
     }
 }
 
-// The entry of a step that isn't lost.
+// The entry of a step that was taken.
 fn entry_of(lost: &Lost) -> Entry
     ensures { result ≡ entry_of lost.now }
 {
@@ -70,7 +70,7 @@ fn entry_of(lost: &Lost) -> Entry
     }
 }
 
-// The cell of a step, if it has one.
+// The record of a step, or `None` if it has none.
 fn cell_of(lost: &Lost) -> Option<Cell>
     ensures { MatchOption result (lost_cells lost.now ≡ []) (λ cell. lost_cells lost.now ≡ cell ∷ []) }
 {
@@ -82,7 +82,7 @@ fn cell_of(lost: &Lost) -> Option<Cell>
     }
 }
 
-// The cell of an operation that changes the world.
+// The record of an operation that changes the world, or `None` if the operation never does.
 fn change_cell(op: &Op) -> Option<Cell>
     ensures { MatchOption result (change_cells op.now ≡ []) (λ cell. change_cells op.now ≡ cell ∷ []) }
 {

@@ -1,4 +1,5 @@
--- The columns of a row behind its session: which word has which, what each may hold, and what they say.
+-- The columns of a row after its session: which words there are, what each of their columns may have, and what it
+-- means.
 use Rattle.std.specs.Prelude.{◌≡◌, ℕ, ◌≤◌, Bool, true, false, List, [], ◌∷◌, codes}
 use Rattle.std.specs.Fmt.{decimal}
 use Rattle.zorder.specs.declared.points.Point.{Point}
@@ -20,7 +21,7 @@ header_fields = codes "session" ∷ codes "op" ∷ codes "id" ∷ codes "x" ∷ 
 abbrev pub words : List Word
 words = Put ∷ Move ∷ Drop ∷ Where ∷ Box ∷ Near ∷ []
 
--- how a word is spelled
+-- the spelling of a word
 abbrev pub word_text : Word → List ℕ
 word_text Put = codes "put"
 word_text Move = codes "move"
@@ -29,7 +30,7 @@ word_text Where = codes "where"
 word_text Box = codes "box"
 word_text Near = codes "near"
 
--- the rules of sessions, ids, coordinates and moments
+-- the rules for sessions, ids, coordinates and moments
 abbrev pub session_rule : Rule
 session_rule = Between 1 16
 
@@ -42,7 +43,8 @@ coordinate_rule = Between 0 4294967295
 abbrev pub moment_rule : Rule
 moment_rule = Between 0 18446744073709551615
 
--- what the columns of a word may hold, where columns 4 and 5 say these numbers: a box's upper corner isn't below its lower one
+-- the rules of a word's columns, if columns 4 and 5 have these numbers; a box's upper corner is not below its lower
+-- corner
 abbrev pub rules_of : Word → ℕ → ℕ → Columns Rule
 rules_of Put x y = record { id = id_rule; x = coordinate_rule; y = coordinate_rule; a = Empty; b = Empty; moment = moment_rule }
 rules_of Move x y = record { id = id_rule; x = coordinate_rule; y = coordinate_rule; a = Empty; b = Empty; moment = moment_rule }
@@ -54,7 +56,7 @@ rules_of Near x y = record { id = Empty; x = coordinate_rule; y = coordinate_rul
 abbrev pub point_of : ℕ → ℕ → Point
 point_of x y = record { x = x; y = y }
 
--- what a word and its columns say
+-- the operation that a word and its columns say
 abbrev pub op_of : Word → Columns ℕ → Op
 op_of Put c = op.Put c.id (point_of c.x c.y) c.moment
 op_of Move c = op.Move c.id (point_of c.x c.y) c.moment
@@ -72,7 +74,7 @@ word_by (op.Find id) = Where
 word_by (op.Within region) = Box
 word_by (op.Near at k) = Near
 
--- the columns that say an operation, behind its word; one that holds nothing is 0
+-- the columns of an operation after its word; a column that stays empty is 0
 abbrev pub columns_of : Op → Columns ℕ
 columns_of (op.Put id at moment) = record { id = id; x = at.x; y = at.y; a = 0; b = 0; moment = moment }
 columns_of (op.Move id at moment) = record { id = id; x = at.x; y = at.y; a = 0; b = 0; moment = moment }
@@ -81,7 +83,7 @@ columns_of (op.Find id) = record { id = id; x = 0; y = 0; a = 0; b = 0; moment =
 columns_of (op.Within region) = record { id = 0; x = region.lo.x; y = region.lo.y; a = region.hi.x; b = region.hi.y; moment = 0 }
 columns_of (op.Near at k) = record { id = 0; x = at.x; y = at.y; a = k; b = 0; moment = 0 }
 
--- columns from left to right
+-- the columns from left to right
 abbrev pub in_order : {T : Type 0} → Columns T → List T
 in_order c = c.id ∷ c.x ∷ c.y ∷ c.a ∷ c.b ∷ c.moment ∷ []
 
@@ -91,17 +93,17 @@ keeps Empty [] = true
 keeps Empty (b ∷ text) = false
 keeps (Between low high) text = is_between low high text
 
--- how a number stands in a column: where that holds nothing, by no text
+-- the text of a number in a column; a column without a number has no text
 abbrev pub text_by : Rule → ℕ → List ℕ
 text_by Empty n = []
 text_by (Between low high) n = decimal n
 
--- a number that a text says which keeps a rule
+-- a number that a text with this rule can say
 abbrev pub Fits : Rule → ℕ → Type 0
 Fits Empty n = n ≡ 0
 Fits (Between low high) n = (low ≤ n) × (n ≤ high)
 
--- columns whose numbers keep the rules of a word
+-- the numbers keep the rules of the word
 pub record AreKept (word : Word) (c : Columns ℕ) : Type 0 where
   pub id : Fits (rules_of word c.x c.y).id c.id
   pub x : Fits (rules_of word c.x c.y).x c.x

@@ -20,7 +20,7 @@ stamped_text s = point_text s.at ++ codes ":" ++ decimal s.moment
 abbrev pub placed_text : Placed → List ℕ
 placed_text m = decimal m.id ++ codes ":" ++ point_text m.at
 
--- points with semicolons between them
+-- ids and points with semicolons between them
 abbrev pub listed_text : List Placed → List ℕ
 listed_text list = join_by placed_text (codes ";") list
 
@@ -37,7 +37,7 @@ word_text ans.Absent = codes "absent"
 word_text (ans.Found ms) = codes "found"
 word_text (ans.Many n) = codes "many"
 
--- what an answer says besides its word; listed points stand in the list's order
+-- the detail of an answer after its word; points are in the order of the list
 abbrev pub detail_text : Answer → List ℕ
 detail_text ans.Done = []
 detail_text (ans.Present s) = stamped_text s
@@ -50,14 +50,14 @@ detail_text ans.Absent = []
 detail_text (ans.Found ms) = listed_text ms
 detail_text (ans.Many n) = decimal n
 
--- a row, its place and the word of its answer, with a comma behind each
+-- a row's number, its place and the word of its answer, with a comma after each
 abbrev pub front_text : ℕ → ℕ → Answer → List ℕ
 front_text row place answer = decimal row ++ codes "," ++ decimal place ++ codes "," ++ word_text answer ++ codes ","
 
--- the line of a row, its place and its answer
+-- the line for a row, its place and its answer
 unfoldable pub line_text : ℕ → ℕ → Answer → List ℕ
 line_text row place answer = front_text row place answer ++ detail_text answer ++ codes "\n"
 
--- the first line of answers
+-- the title line of the answers
 abbrev pub title_line : List ℕ
 title_line = codes "row,place,answer,detail\n"

@@ -1,4 +1,4 @@
--- Numbers of the input.
+-- The numbers of an input.
 use Rattle.std.specs.Prelude.{◌≡◌, ℕ, ◌<◌, ◌^◌, nat_le, Bool, true, ◌&&◌, List, length, if◌then◌else◌, Option, Some, None}
 use Rattle.std.specs.Char.{is_ascii_digit}
 use Rattle.std.specs.List.{list_all}
@@ -8,18 +8,18 @@ use Rattle.std.specs.Str.Parse.{digits_value}
 unfoldable pub is_number : List ℕ → Bool
 is_number field = nat_le 1 (length field) && nat_le (length field) 20 && list_all is_ascii_digit field
 
--- what digits say
+-- the number that digits say
 abbrev pub number : List ℕ → ℕ
 number field = digits_value 10 field
 
--- some digits, and what they say is a number of 64 bits
+-- all bytes are digits, and their number fits in 64 bits
 abbrev pub FitsWord : List ℕ → Type 0
 FitsWord bytes = (list_all is_ascii_digit bytes ≡ true) × (number bytes < 2 ^ 64)
 
--- a number that lies between these two
+-- a number from `low` to `high`
 unfoldable pub is_between : ℕ → ℕ → List ℕ → Bool
 is_between low high field = is_number field && nat_le low (number field) && nat_le (number field) high
 
--- the number of a field, where it lies between these two
+-- the number of a field, if it is from `low` to `high`
 abbrev pub number_in : ℕ → ℕ → List ℕ → Option ℕ
 number_in low high field = if is_between low high field then Some (number field) else None

@@ -1,4 +1,4 @@
--- Where a reader of a text stands among its records.
+-- Which of a text's records a reader has read.
 use Rattle.std.specs.Prelude.{◌≡◌, ℕ, ◌+◌, List, [], ◌∷◌, ◌++◌, length, Option, Some, Bool, true, Result}
 use Rattle.std.specs.Bool.{MatchBool}
 use Rattle.std.specs.Borrow.{Bor}
@@ -12,11 +12,11 @@ use Rattle.csv_rows.specs.Rows.{rows_behind_header, rows_from, with_rows}
 use Rattle.csv_rows.specs.declared.rows.InRow.{InRow}
 use Rattle.csv_rows.specs.declared.rows.RowsFault.{RowsFault}
 
--- the bytes that a slice has left
+-- the bytes that are left in a slice
 abbrev pub slice_left : Bor (List ℕ) → Option (List ℕ)
 slice_left s = Some s.now
 
--- the reader has given these records of the text, one after the other, and takes records of any length as they are
+-- the reader has read these records of the text, and takes records of any length
 pub record StandsBehind (text : List ℕ) (records : List (List (List ℕ))) (reader : Reader (Bor (List ℕ))) : Type 0 where
   pub trim : reader.trim ≡ trim.None
   pub ready : Ready reader
@@ -26,17 +26,18 @@ pub record StandsBehind (text : List ℕ) (records : List (List (List ℕ))) (re
   pub source : source_of slice_left reader ≡ Some left
   pub reached : Reached default_config st.StartRecord (strip_bom text) records reader.state left
 
--- what a read does to a reader that stands among the records of a text: it gives one more, or they are all
+-- a read of the next record: it finds one more, or the records so far are all
 abbrev pub TakesRecord : Reader (Bor (List ℕ)) → Reader (Bor (List ℕ)) → Bool → List (List ℕ) → Type 0
 TakesRecord old new found fields = (text : List ℕ) (so_far : List (List (List ℕ))) → StandsBehind text so_far old
     → MatchBool found (StandsBehind text (so_far ++ fields ∷ []) new) (records default_config (strip_bom text) ≡ so_far)
 
--- the records so far are a header and these rows, so whatever comes is read as the rows behind them. without a record there is no row
+-- The records so far are a header and these rows, so each later record is read as a row after them. Without a record
+-- there is no row.
 abbrev pub SoFar : List (List (List ℕ)) → List InRow → Type 0
 SoFar [] rows = rows ≡ []
 SoFar (r ∷ rs) rows = (more : List (List (List ℕ))) → rows_behind_header ((r ∷ rs) ++ more) ≡ with_rows rows (rows_from (length (r ∷ rs)) more)
 
--- what a reader of a text has read: the header, and then these rows, which are one fewer than its records
+-- the reader has read the header and then these rows; the rows are one fewer than the records
 pub record HasRead (text : List ℕ) (reader : Reader (Bor (List ℕ))) (rows : List InRow) (number : ℕ) : Type 0 where
   pub first : List (List ℕ)
   pub rest : List (List (List ℕ))

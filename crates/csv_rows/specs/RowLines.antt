@@ -1,4 +1,4 @@
--- Rows as text, as they are read: no quotes, and numbers without leading zeros.
+-- Rows as text, in the form in which they are read: no quotes, and numbers without leading zeros.
 use Rattle.std.specs.Prelude.{ℕ, List, [], ◌∷◌, ◌++◌, codes}
 use Rattle.std.specs.List.{flat_map, join_by}
 use Rattle.std.specs.Fmt.{decimal}
@@ -18,12 +18,12 @@ row_fields row = decimal row.session ∷ op_fields row.op
 abbrev pub fields_line : List (List ℕ) → List ℕ
 fields_line fields = join_by (λ field. field) (codes ",") fields ++ codes "\n"
 
--- fields, each behind a comma, then the end of the line, and what stands behind it
+-- fields with a comma before each, then the end of the line and the text after it
 abbrev pub line_then : List (List ℕ) → List ℕ → List ℕ
 line_then [] rest = codes "\n" ++ rest
 line_then (field ∷ fields) rest = codes "," ++ (field ++ line_then fields rest)
 
--- what stands behind the session in the line of a row
+-- the line of a row after its session
 abbrev pub op_tail : Op → List ℕ
 op_tail op = flat_map (λ (field : List ℕ). codes "," ++ field) (op_fields op) ++ codes "\n"
 
@@ -31,7 +31,7 @@ op_tail op = flat_map (λ (field : List ℕ). codes "," ++ field) (op_fields op)
 abbrev pub row_line : InRow → List ℕ
 row_line row = fields_line (row_fields row)
 
--- the first line
+-- the header line
 abbrev pub header_line : List ℕ
 header_line = fields_line header_fields
 

@@ -1,4 +1,4 @@
--- The rows of a text of CSV.
+-- The rows of a CSV text.
 use Rattle.std.specs.Prelude.{ℕ, ◌+◌, nat_lt, Bool, List, [], ◌∷◌, drop, if◌then◌else◌, Result, Ok, Err, nat_eq}
 use Rattle.std.specs.List.{starts_with}
 use Rattle.std.specs.Cmp.Lexicographic.{pointwise}
@@ -15,43 +15,43 @@ use Rattle.csv_rows.specs.Fields.{row_of, is_text}
 abbrev pub has_mark : List ℕ → Bool
 has_mark bytes = starts_with nat_eq bytes (0xEF ∷ 0xBB ∷ 0xBF ∷ [])
 
--- a text behind its mark, if it has one
+-- the text after its byte order mark, or the whole text if it has none
 abbrev pub behind_mark : List ℕ → List ℕ
 behind_mark bytes = if has_mark bytes then drop 3 bytes else bytes
 
 abbrev pub is_header : List (List ℕ) → Bool
 is_header fields = pointwise is_text fields header_fields
 
--- one row more in front
+-- the rows with one more in front
 abbrev pub with_row : InRow → Result (List InRow) RowsFault → Result (List InRow) RowsFault
 with_row row (Ok rows) = Ok (row ∷ rows)
 with_row row (Err e) = Err e
 
--- rows in front
+-- the rows with some more in front
 abbrev pub with_rows : List InRow → Result (List InRow) RowsFault → Result (List InRow) RowsFault
 with_rows [] more = more
 with_rows (row ∷ rows) more = with_row row (with_rows rows more)
 
--- what is wrong with the row of this number
+-- the fault for a row of this number
 abbrev pub fault_at : ℕ → Wrong → RowsFault
 fault_at number Length = Csv number
 fault_at number (Column column) = Field number column
 
--- a row and those behind it, or what is wrong with it
+-- a row and the rows after it, or the fault of the row
 abbrev pub row_then : ℕ → Result InRow Wrong → Result (List InRow) RowsFault → Result (List InRow) RowsFault
 row_then number (Ok row) more = with_row row more
 row_then number (Err wrong) more = Err (fault_at number wrong)
 
--- the rows of records, the first of which has this number: at most 65,536
+-- the rows of records, if the first record has this number; row numbers end at 65,536
 abbrev pub rows_from : ℕ → List (List (List ℕ)) → Result (List InRow) RowsFault
 rows_from number [] = Ok []
 rows_from number (fields ∷ more) = if nat_lt 65536 number then Err TooMany else row_then number (row_of fields) (rows_from (number + 1) more)
 
--- the rows behind the header
+-- the rows after the header
 abbrev pub rows_behind_header : List (List (List ℕ)) → Result (List InRow) RowsFault
 rows_behind_header [] = Err Header
 rows_behind_header (fields ∷ more) = if is_header fields then rows_from 1 more else Err Header
 
--- the rows of a text, or the first record at fault; a text behind one mark that begins with another has no header
+-- the rows of a text, or the first fault; a text that begins with two byte order marks has no header
 unfoldable pub rows_of : List ℕ → Result (List InRow) RowsFault
 rows_of bytes = if has_mark (behind_mark bytes) then Err Header else rows_behind_header (records default_config (behind_mark bytes))

@@ -1,6 +1,7 @@
-//! The columns of a row behind its session: which word has which, what each may hold, and what they say.
+//! The columns of a row after its session: which words there are, what each of their columns may have, and what it
+//! means.
 //!
-//! Whoever reads or writes rows goes by these, and knows no operation.
+//! The code that reads and writes rows uses these tables, and knows no operation.
 ghost use Rattle.std.specs.Prelude.{◌≡◌, ◌<◌, ◌^◌, ◌≤◌, length};
 ghost use Rattle.plain_list.specs.Answer.{IsValid, FitsOp};
 ghost use Rattle.csv_rows.specs.Columns.{AreKept, rules_of, op_of, word_by, columns_of, word_text};
@@ -29,7 +30,7 @@ pub(crate) const WORDS: [Word; 6] = [
     Word::Near,
 ];
 
-/// Columns 3 to 8: their texts, their numbers, or what they may hold.
+/// Columns 3 to 8 of a row: their texts, their numbers, or their rules.
 #[derive(Clone, Copy)]
 pub(crate) struct Columns<T> {
     pub id: T,
@@ -40,17 +41,17 @@ pub(crate) struct Columns<T> {
     pub moment: T,
 }
 
-/// What a column may hold: nothing, or a number that lies between these two.
+/// What a column may have: nothing, or a number from `low` to `high`.
 #[derive(Clone, Copy)]
 pub enum Rule {
     Empty,
     Between { low: u64, high: u64 },
 }
 
-/// The rule of sessions.
+/// The rule for sessions.
 pub(crate) const SESSION: Rule = Rule::Between { low: 1, high: 16 };
 
-/// The rule of ids.
+/// The rule for ids.
 pub const ID: Rule = Rule::Between {
     low: 0,
     high: u64::MAX,
@@ -63,7 +64,7 @@ const MOMENT: Rule = Rule::Between {
 
 const COORDINATE_MAX: u64 = 4_294_967_295;
 
-/// The rule of coordinates.
+/// The rule for coordinates.
 pub const COORDINATE: Rule = Rule::Between {
     low: 0,
     high: COORDINATE_MAX,
@@ -71,7 +72,7 @@ pub const COORDINATE: Rule = Rule::Between {
 
 const COUNT: Rule = Rule::Between { low: 1, high: 2048 };
 
-/// A coordinate that isn't below this one.
+/// The rule for a coordinate that is at least `low`.
 #[inline(always)]
 pub fn at_least(low: u64) -> Rule
     ensures { result ≡ Rule.Between low 4294967295 }
@@ -82,7 +83,7 @@ pub fn at_least(low: u64) -> Rule
     }
 }
 
-/// How a word is spelled.
+/// Returns the spelling of a word.
 #[inline(always)]
 pub(crate) fn text_of(word: Word) -> &'static str
     ensures text { result.now ≡ word_text word }
@@ -98,7 +99,8 @@ pub(crate) fn text_of(word: Word) -> &'static str
     }
 }
 
-/// What the columns of a word may hold, where columns 4 and 5 say these numbers. The rules of columns 3 to 5 don't depend on them.
+/// Returns the rules of a word's columns, if columns 4 and 5 have the numbers `x` and `y`. The rules of columns 3 to 5
+/// don't depend on these.
 #[inline(always)]
 pub(crate) fn rules_of(word: Word, x: u64, y: u64) -> Columns<Rule>
     ensures { result ≡ rules_of word x y }
@@ -139,7 +141,7 @@ pub(crate) fn rules_of(word: Word, x: u64, y: u64) -> Columns<Rule>
     }
 }
 
-/// What a word and its columns say.
+/// Returns the operation that a word and its columns say.
 #[inline(always)]
 pub(crate) fn op_of(word: Word, columns: Columns<u64>) -> Op
     requires { AreKept word columns }
@@ -172,7 +174,7 @@ pub(crate) fn op_of(word: Word, columns: Columns<u64>) -> Op
     }
 }
 
-/// The point at these coordinates.
+/// Returns the point with these coordinates.
 #[inline(always)]
 pub fn point_of(x: u64, y: u64) -> Point
     requires x { x < 2 ^ 32 }
@@ -185,7 +187,7 @@ pub fn point_of(x: u64, y: u64) -> Point
     }
 }
 
-/// The word of an operation.
+/// Returns the word of an operation.
 pub(crate) fn word_by(op: &Op) -> Word
     ensures { result ≡ word_by op.now }
 {
@@ -199,7 +201,7 @@ pub(crate) fn word_by(op: &Op) -> Word
     }
 }
 
-/// The columns that say an operation, behind its word. One that holds nothing is 0.
+/// Returns the columns of an operation after its word. A column that stays empty is 0.
 pub(crate) fn columns_of(op: &Op) -> Columns<u64>
     ensures { result ≡ columns_of op.now }
 {

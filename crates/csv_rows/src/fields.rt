@@ -34,7 +34,7 @@ pub(crate) const HEADER: Fields<'static> = Fields {
     },
 };
 
-/// The row of a record, or what is wrong with it.
+/// Returns the row of a record, or what is wrong with the record.
 pub(crate) fn row_of(record: &ByteRecord) -> Result<InRow, Wrong>
     ensures row { result ≡ row_of (fields_of record.now) }
     ensures rules { IfOk result IsInRow }
@@ -53,7 +53,7 @@ pub(crate) fn row_of(record: &ByteRecord) -> Result<InRow, Wrong>
     })
 }
 
-/// Whether a record is the header.
+/// Returns whether a record is the header.
 pub(crate) fn is_header(record: &ByteRecord) -> bool
     ensures { result ≡ is_header (fields_of record.now) }
 {
@@ -65,7 +65,7 @@ pub(crate) fn is_header(record: &ByteRecord) -> bool
         && are_same(&fields.columns, &HEADER.columns)
 }
 
-// Whether columns hold the same texts.
+// Returns whether all columns have the same texts.
 fn are_same(columns: &Columns<&[u8]>, others: &Columns<&[u8]>) -> bool
     ensures { result ≡ pointwise is_text (in_order (texts columns.now)) (in_order (texts others.now)) }
 {
@@ -98,7 +98,7 @@ fn fields_in(record: &ByteRecord) -> Option<Fields<'_>>
     })
 }
 
-/// The field at a place where there is one.
+/// Returns the field with the index `place`.
 pub fn field_in(record: &ByteRecord, place: usize) -> &[u8]
     requires { place < length (fields_of record.now) }
     ensures { field_at (fields_of record.now) place ≡ Some result.now }
@@ -118,14 +118,14 @@ fn word_of(field: &[u8]) -> Option<Word>
         .find(|word| is_text(field, text_of(*word)))
 }
 
-/// Whether a field is this text.
+/// Returns whether a field is this text.
 pub fn is_text(field: &[u8], text: &str) -> bool
     ensures { result ≡ is_text field.now text.now }
 {
     field == text.as_bytes()
 }
 
-// The numbers of the columns behind a word, or the leftmost of them at fault.
+// Returns the numbers of the columns after a word, or the leftmost column that breaks its rule.
 fn numbers_of(word: Word, fields: &Columns<&[u8]>) -> Result<Columns<u64>, Wrong>
     ensures numbers { result ≡ numbers_by word (texts fields.now) }
     ensures kept { IfOk result (AreKept word) }
@@ -148,7 +148,7 @@ fn numbers_of(word: Word, fields: &Columns<&[u8]>) -> Result<Columns<u64>, Wrong
     })
 }
 
-/// The number of a field that keeps this rule, which is 0 where it says none, or its column at fault.
+/// Returns the number of a field, which is 0 for the rule `Empty`, or its column if the field breaks the rule.
 pub fn number_at(column: u8, rule: Rule, field: &[u8]) -> Result<u64, Wrong>
     ensures number { result ≡ number_by column rule field.now }
     ensures fits { IfOk result (Fits rule) }

@@ -1,4 +1,4 @@
-//! Lines of answers that go to a sink together.
+//! Collecting lines of answers into large pieces for a sink.
 ghost use Rattle.std.specs.Prelude.{◌≡◌, ◌++◌, List, [], ℕ};
 ghost use Rattle.causes.specs.Causes.{Counts};
 ghost use Rattle.io_edge.specs.Puts.{Puts};
@@ -11,8 +11,9 @@ use io_edge::{Sink, SinkFault};
 use plain_list::Answer;
 use std::marker::Model;
 
-/// Lines on their way to one sink, in pieces of up to 64 KiB, which lie in the value itself: it takes no memory. Contracts see the bytes
-/// that are held back. They go out by `finish`, and without it never. After a fault they are lost, and none are held back.
+/// Lines on their way to one sink, in pieces of up to 64 KiB. The buffer is in the value itself, so a `Gathered` takes
+/// no heap memory. Contracts see it as the bytes that are held back. Only `finish` puts the last of them. After a
+/// fault, all held bytes are lost.
 #[derive(Drop)]
 pub struct Gathered {
     piece: Piece,
@@ -25,7 +26,7 @@ impl Model for Gathered {
 }
 
 impl Gathered {
-    /// Nothing is held back.
+    /// Creates a `Gathered` that holds back nothing.
     pub fn new() -> Gathered
         ensures { result ≡ [] }
     {
@@ -34,7 +35,7 @@ impl Gathered {
         }
     }
 
-    /// Adds the first line of answers.
+    /// Adds the title line of the answers.
     pub fn add_title<K: Sink>(&mut self, sink: &mut K) -> Result<(), SinkFault>
         ensures bytes { HoldsBack (K.output sink.old).taken (K.output sink.new).taken (self.old ++ title_line) self.new result }
         ensures cause { Counts (K.output sink.old).faults (K.output sink.new).faults result }
@@ -44,7 +45,7 @@ impl Gathered {
         Ok(())
     }
 
-    /// Adds the line of a row.
+    /// Adds the line of a row's answer.
     pub fn add_line<K: Sink>(
         &mut self,
         sink: &mut K,
@@ -59,7 +60,7 @@ impl Gathered {
         add_line(sink, &mut self.piece, row, place, answer)
     }
 
-    /// Puts what is held back.
+    /// Puts the bytes that are held back.
     pub fn finish<K: Sink>(self, sink: &mut K) -> Result<(), SinkFault>
         ensures bytes { Puts (K.output sink.old).taken (K.output sink.new).taken self result }
         ensures cause { Counts (K.output sink.old).faults (K.output sink.new).faults result }

@@ -1,15 +1,17 @@
 //! Reads the rows of a CSV input, and writes rows and answers as text.
 //!
-//! Contracts see the rows of an input as `rows_of` its bytes: a list of rows, or the first place at fault, both taken
-//! from the records that `csv` reads. `read_rows` answers exactly that, or want of memory. `Rows` is seen as a list of
-//! rows that each keep the rules of their columns. `write_title`, `write_line` and `write_rows` put exactly the texts of
-//! `Lines` and `RowLines`, and take no memory; what `write_rows` puts reads again as the same rows. A `Gathered` has many
-//! lines go out in large pieces; other crates write theirs into a `Piece`.
+//! Contracts see the rows of an input as `rows_of` its bytes: a list of rows, or the first fault. Both come from the
+//! records that `csv` reads. `read_rows` returns exactly this, or fails if memory runs out. Contracts see `Rows` as a
+//! list of rows, each of which keeps the rules of its columns.
 //!
-//! Rows of another type are seen as `rows_of_text` of a `Table`, which says what each record says behind the rows before it.
-//! `read_table` answers exactly that, or want of memory, for whatever implements `ReadsRow`.
+//! `write_title`, `write_line` and `write_rows` put exactly the texts that `Lines` and `RowLines` define, and take no
+//! memory. The text of `write_rows` reads as the same rows. A `Gathered` puts many lines in large pieces. Other crates
+//! write their lines into a `Piece`.
 //!
-//! Not here: what an operation answers (`plain_list`), refusals and the lines of commands (`run_ends`).
+//! `read_table` reads rows of any type that implements `ReadsRow`. Contracts see these rows as `rows_of_text` of a
+//! `Table`, which says what a record means after the rows before it.
+//!
+//! Not here: the answers to operations (`plain_list`), refusals and the lines of commands (`run_ends`).
 #![tactic(auto)]
 
 mod columns;

@@ -13,7 +13,7 @@ use io_edge::{Sink, SinkFault};
 use plain_list::Answer;
 use zorder::Placed;
 
-/// Writes the first line of answers.
+/// Writes the title line of the answers.
 pub fn write_title<K: Sink>(sink: &mut K) -> Result<(), SinkFault>
     ensures bytes { Puts (K.output sink.old).taken (K.output sink.new).taken title_line result }
     ensures cause { Counts (K.output sink.old).faults (K.output sink.new).faults result }
@@ -21,8 +21,8 @@ pub fn write_title<K: Sink>(sink: &mut K) -> Result<(), SinkFault>
     sink.put(b"row,place,answer,detail\n")
 }
 
-/// Writes the line of a row. It goes as one piece, but for a long list of points, which goes in pieces of up to 64 KiB. Many lines go out
-/// sooner by a `Gathered`.
+/// Writes the line of a row's answer. The line is one piece, but a long list of points goes in pieces of up to 64 KiB.
+/// To write many lines, a `Gathered` is faster.
 pub fn write_line<K: Sink>(
     sink: &mut K,
     row: u32,
@@ -37,7 +37,7 @@ pub fn write_line<K: Sink>(
     sink.put(piece.as_slice())
 }
 
-/// Adds the line of a row.
+/// Adds the line of a row's answer to a piece.
 pub(crate) fn add_line<K: Sink>(
     sink: &mut K,
     piece: &mut Piece,
@@ -55,7 +55,7 @@ pub(crate) fn add_line<K: Sink>(
     Ok(())
 }
 
-// Adds what stands before the detail of an answer.
+// Adds the columns before the detail of an answer.
 fn add_front(piece: &mut Piece, row: u32, place: u64, answer: &Answer)
     requires { array_vec_len piece.old ≤ 65392 }
     ensures bytes { piece.new.items ≡ piece.old.items ++ front_text row place answer.now }
@@ -65,7 +65,7 @@ fn add_front(piece: &mut Piece, row: u32, place: u64, answer: &Answer)
     push_str(piece, word_of(answer));
 }
 
-// The word of an answer, between its commas.
+// Returns the word of an answer with a comma before and after it.
 fn word_of(answer: &Answer) -> &'static str
     ensures word { result.now ≡ codes "," ++ word_text answer.now ++ codes "," }
     ensures short { length result.now ≤ 9 }

@@ -1,14 +1,14 @@
-//! Decimal numbers, read by hand from bytes.
+//! Reading decimal numbers from bytes.
 ghost use Rattle.std.specs.Prelude.{◌≡◌, ◌≤◌, ◌<◌, true, false, get_or, length, take, SomeIff};
 ghost use Rattle.std.specs.Char.{is_ascii_digit};
 ghost use Rattle.std.specs.List.{list_all};
 ghost use Rattle.std.specs.Str.Parse.{digits_value};
 ghost use Rattle.csv_rows.specs.Numbers.{FitsWord, number_in};
 
-// Any number of so many digits fits 64 bits.
+// Each number with this many digits fits in 64 bits.
 const MOST_DIGITS: usize = 19;
 
-/// The number that a field of one to twenty digits says, where it lies between these two. Leading zeros are read.
+/// Returns the number of a field with 1 to 20 digits, if it is from `low` to `high`. Leading zeros are allowed.
 pub fn number_in(field: &[u8], low: u64, high: u64) -> Option<u64>
     ensures { result ≡ number_in low high field.now }
 {
@@ -28,7 +28,8 @@ pub fn number_in(field: &[u8], low: u64, high: u64) -> Option<u64>
     Some(value)
 }
 
-// The number that these bytes say, where all of them are digits and it fits 64 bits. Only the last one can make it too much.
+// Returns the number of 1 to 20 bytes, if all are digits and the number fits in 64 bits. Only the last digit can make
+// it too large.
 fn value_of(bytes: &[u8]) -> Option<u64>
     requires some { 1 ≤ length bytes.now }
     requires few { length bytes.now ≤ 20 }
@@ -45,7 +46,7 @@ fn value_of(bytes: &[u8]) -> Option<u64>
     Some(value)
 }
 
-// The same of at most nineteen bytes, which always fits.
+// The same for at most 19 bytes, whose number always fits.
 fn front_value(bytes: &[u8]) -> Option<u64>
     requires { length bytes.now ≤ 19 }
     ensures { SomeIff result (list_all is_ascii_digit bytes.now ≡ true) (digits_value 10 bytes.now) }
@@ -57,14 +58,15 @@ fn front_value(bytes: &[u8]) -> Option<u64>
     Some(value)
 }
 
-/// What the digits at the front of a text say, and how many they are. It takes nineteen at most, which always fit.
+/// Returns the number of the digits at the front of a text, and how many digits these are. It reads at most 19, which
+/// always fit.
 pub(crate) fn front_number(text: &[u8]) -> (u64, usize)
     ensures value { result.0 ≡ digits_value 10 (take result.1 text.now) }
     ensures digits { list_all is_ascii_digit (take result.1 text.now) ≡ true }
     ensures few { (result.1 ≤ length text.now) × (result.1 ≤ 19) }
     ensures all { result.1 < length text.now → result.1 < 19 → is_ascii_digit (get_or text.now result.1 0) ≡ false }
 {
-    // Nearly all numbers stand far from the end: there the number of turns is constant.
+    // Nearly all numbers are far from the end of the text. For them, the number of iterations is constant.
     if text.len() < MOST_DIGITS {
         front_digits(text, text.len())
     } else {
@@ -72,7 +74,7 @@ pub(crate) fn front_number(text: &[u8]) -> (u64, usize)
     }
 }
 
-// The same of so many bytes.
+// The same for at most `most` bytes.
 #[inline(always)]
 fn front_digits(text: &[u8], most: usize) -> (u64, usize)
     requires within { most ≤ length text.now }

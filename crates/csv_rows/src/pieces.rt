@@ -1,4 +1,4 @@
-//! Texts that go to a sink in pieces of up to 64 KiB, built in a buffer that takes no memory.
+//! Texts that go to a sink in pieces of up to 64 KiB. The buffer takes no heap memory.
 ghost use Rattle.std.specs.Prelude.{◌≡◌, ◌≤◌, ◌+◌, ◌∷◌, ◌++◌, ◌<◌, [], codes, drop, length, OnOk};
 ghost use Rattle.std.specs.Fmt.{decimal};
 ghost use Rattle.arrayvec.specs.ArrayVec.{array_vec_len};
@@ -12,13 +12,13 @@ use itoa::{Buffer, write_digits};
 use plain_list::Stamped;
 use zorder::Placed;
 
-/// The piece that is built, and put when it is nearly full. It lies in the value itself: it takes no memory.
+/// A buffer for one piece, which is put when it is nearly full. Its bytes are in the value itself.
 pub type Piece = ArrayVec<u8, 65536>;
 
-// A piece with as much as this has room for one more entry, which has at most 144 bytes.
+// A piece with at most this many bytes has room for one more entry, which has at most 144 bytes.
 const ROOM_FOR_ONE: usize = 65_392;
 
-/// Puts the piece where it is nearly full, and begins the next. Where the put fails, what the piece held is lost.
+/// Puts the piece if it is nearly full, and empties it. If the put fails, the bytes of the piece are lost.
 pub fn make_room<K: Sink>(sink: &mut K, piece: &mut Piece) -> Result<(), SinkFault>
     ensures bytes { HoldsBack (K.output sink.old).taken (K.output sink.new).taken piece.old.items piece.new.items result }
     ensures cause { Counts (K.output sink.old).faults (K.output sink.new).faults result }
@@ -61,7 +61,7 @@ pub fn add_number(piece: &mut Piece, number: u64)
     push_str(piece, buffer.format(number));
 }
 
-/// Adds two numbers with a mark between them, all at once.
+/// Adds two numbers with a mark between them, in one copy.
 pub fn add_pair(piece: &mut Piece, first: u64, mark: u8, second: u64)
     requires { array_vec_len piece.old ≤ 65495 }
     ensures bytes { piece.new.items ≡ piece.old.items ++ decimal first ++ (mark ∷ []) ++ decimal second }
@@ -73,7 +73,7 @@ pub fn add_pair(piece: &mut Piece, first: u64, mark: u8, second: u64)
     push_bytes(piece, &text[start..]);
 }
 
-/// Adds both coordinates and their moment, with a mark between each two, all at once.
+/// Adds both coordinates and the moment, with a mark between each two, in one copy.
 pub(crate) fn add_stamped(piece: &mut Piece, kept: Stamped, mark: u8)
     requires { array_vec_len piece.old ≤ 65474 }
     ensures bytes { piece.new.items ≡ piece.old.items ++ decimal kept.at.x ++ (mark ∷ []) ++ decimal kept.at.y
@@ -87,7 +87,7 @@ pub(crate) fn add_stamped(piece: &mut Piece, kept: Stamped, mark: u8)
     push_bytes(piece, &text[start..]);
 }
 
-/// Adds a point with its id.
+/// Adds an id and its point, as `id:x:y`.
 pub(crate) fn add_placed(piece: &mut Piece, placed: &Placed)
     requires { array_vec_len piece.old ≤ 65473 }
     ensures bytes { piece.new.items ≡ piece.old.items ++ placed_text placed.now }
@@ -98,7 +98,7 @@ pub(crate) fn add_placed(piece: &mut Piece, placed: &Placed)
     push_bytes(piece, &text[mark + 1..]);
 }
 
-/// Adds a listed point behind another, with its id: all at once, since a list may have thousands.
+/// Adds a semicolon, an id and its point. It makes one copy, since a list may have thousands of points.
 pub(crate) fn add_listed(piece: &mut Piece, placed: &Placed)
     requires { array_vec_len piece.old ≤ 65392 }
     ensures bytes { piece.new.items ≡ piece.old.items ++ (codes ";" ++ placed_text placed.now) }
@@ -109,7 +109,7 @@ pub(crate) fn add_listed(piece: &mut Piece, placed: &Placed)
     push_bytes(piece, &text[mark..]);
 }
 
-// Writes a point with its id behind a semicolon so that they end with the text, and returns where they start.
+// Writes a semicolon, an id and its point at the end of the text, and returns the index at which they start.
 fn write_listed(text: &mut [u8; 63], placed: &Placed) -> usize
     ensures text { drop result text.new ≡ codes ";" ++ placed_text placed.now }
     ensures start { result < 63 }
@@ -119,7 +119,7 @@ fn write_listed(text: &mut [u8; 63], placed: &Placed) -> usize
     write_marked(text, b';', placed.id, x)
 }
 
-// Writes a mark and a number so that they end there, and returns where they start.
+// Writes a mark and a number so that they end at `end`, and returns the index at which they start.
 fn write_marked(text: &mut [u8], mark: u8, number: u64, end: usize) -> usize
     requires room { 21 ≤ end }
     requires within { end ≤ length text.old }

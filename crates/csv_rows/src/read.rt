@@ -1,4 +1,4 @@
-//! The rows of an input.
+//! Reading the rows of an input.
 ghost use Rattle.std.specs.Prelude.{◌≡◌, ◌≢◌, ◌≤◌, ◌+◌, ℕ, List, [], IfOk, IfErr};
 ghost use Rattle.std.specs.Bool.{MatchBool};
 ghost use Rattle.csv_rows.specs.InRows.{AreInRows};
@@ -14,11 +14,10 @@ use std::alloc::Global;
 
 pub(crate) const MOST_ROWS: u32 = 65_536;
 
-/// The rows of an input: a header, and then at most 65,536 rows of eight fields.
+/// Reads the rows of an input: a header, and then at most 65,536 rows with eight fields each.
 ///
-/// One byte order mark may stand in front. Empty lines are no records, and numbers may have leading zeros. A text that is
-/// byte for byte as `write_rows` writes its rows, with no number of twenty digits, is read about three times as fast as any
-/// other.
+/// One byte order mark may precede the header. Empty lines are not records, and numbers may have leading zeros. A text
+/// is read about three times as fast if it is byte for byte what `write_rows` writes, with no number of 20 digits.
 pub fn read_rows(alloc: Global, bytes: &[u8]) -> Result<Rows, RowsFault>
     ensures rows { IfOk result (λ rows. rows_of bytes.now ≡ Ok rows) }
     ensures fault { IfErr result (λ e. e ≢ RowsFault.Memory → rows_of bytes.now ≡ Err e) }
@@ -33,21 +32,21 @@ pub fn read_rows(alloc: Global, bytes: &[u8]) -> Result<Rows, RowsFault>
     }
 }
 
-/// Whether a text begins with the byte order mark.
+/// Returns whether a text begins with the byte order mark.
 pub(crate) fn has_mark(bytes: &[u8]) -> bool
     ensures { result ≡ has_mark bytes.now }
 {
     bytes.starts_with(b"\xEF\xBB\xBF".as_slice())
 }
 
-/// A text behind its mark, if it has one.
+/// Returns the text after its byte order mark, or the whole text if it has none.
 pub(crate) fn behind_mark(bytes: &[u8]) -> &[u8]
     ensures { result.now ≡ behind_mark bytes.now }
 {
     if has_mark(bytes) { &bytes[3..] } else { bytes }
 }
 
-// The rows of a text that begins with no mark.
+// Reads the rows of a text that begins with no mark.
 fn read_records(alloc: Global, text: &[u8]) -> Result<Rows, RowsFault>
     ensures rows { IfOk result (λ rows. rows_in text.now ≡ Ok rows) }
     ensures fault { IfErr result (λ e. e ≢ RowsFault.Memory → rows_in text.now ≡ Err e) }
@@ -57,7 +56,7 @@ fn read_records(alloc: Global, text: &[u8]) -> Result<Rows, RowsFault>
     read_all(alloc, &mut reader, &mut record)
 }
 
-// All rows that a reader gives from the start.
+// Reads all rows from the start of a text.
 fn read_all(
     alloc: Global,
     reader: &mut Reader<&[u8]>,
@@ -74,7 +73,7 @@ fn read_all(
     Ok(Rows::from_vec(rows))
 }
 
-// The rows behind the header.
+// Reads the rows after the header.
 fn read_behind(
     reader: &mut Reader<&[u8]>,
     record: &mut ByteRecord,
@@ -114,7 +113,7 @@ fn read_header(reader: &mut Reader<&[u8]>, record: &mut ByteRecord) -> Result<()
     Ok(())
 }
 
-// The row of this number, and whether there is one.
+// Reads the row of this number, and returns whether there is one.
 fn read_next(
     reader: &mut Reader<&[u8]>,
     record: &mut ByteRecord,
@@ -140,7 +139,7 @@ fn read_next(
     Ok(true)
 }
 
-/// What is wrong with the row of this number.
+/// Returns the fault for a row of this number.
 pub(crate) fn fault_at(row: u32, wrong: Wrong) -> RowsFault
     ensures { result ≡ fault_at row wrong }
 {

@@ -8,7 +8,7 @@ use crate::rows::RowsFault;
 use csv::{ByteRecord, ErrorKind, Reader, ReaderBuilder};
 use std::alloc::Global;
 
-/// A reader of a text's records, of whatever length.
+/// Creates a reader for the records of a text. Records may have any number of fields.
 pub(crate) fn reader_of(alloc: Global, text: &[u8]) -> Reader<&[u8]>
     ensures start { StandsBehind text.now [] result }
     ensures source { (reader_source result).now ≡ text.now }
@@ -19,7 +19,7 @@ pub(crate) fn reader_of(alloc: Global, text: &[u8]) -> Reader<&[u8]>
         .from_reader(alloc, text)
 }
 
-/// The next record, and whether there is one. It fails for want of memory alone.
+/// Reads the next record, and returns whether there is one. It fails only if memory runs out.
 pub(crate) fn next_record(
     reader: &mut Reader<&[u8]>,
     record: &mut ByteRecord,
@@ -33,7 +33,7 @@ pub(crate) fn next_record(
         Ok(found) => Ok(found),
         Err(error) => match error.kind() {
             ErrorKind::UnequalLengths { .. } => unreachable!(),
-            // Of the other kinds only want of memory comes, and that one has no allocator's error to pass on.
+            // Of the other kinds of errors, only the one for memory occurs. It has no allocator's error to pass on.
             _ => Err(RowsFault::Memory),
         },
     }

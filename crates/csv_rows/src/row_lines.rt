@@ -1,4 +1,4 @@
-//! Rows as text, as they are read.
+//! Writing rows in the form in which they are read.
 ghost use Rattle.std.specs.Prelude.{◌≡◌, ◌≤◌, ◌+◌, ◌++◌, codes, length, Ok};
 ghost use Rattle.arrayvec.specs.ArrayVec.{array_vec_len};
 ghost use Rattle.causes.specs.Causes.{Counts};
@@ -29,7 +29,7 @@ pub fn write_rows<K: Sink>(sink: &mut K, rows: &Rows) -> Result<(), SinkFault>
     sink.put(piece.as_slice())
 }
 
-/// Adds the first line.
+/// Adds the header line.
 pub(crate) fn add_header(piece: &mut Piece)
     requires { array_vec_len piece.old ≤ 65392 }
     ensures { piece.new.items ≡ piece.old.items ++ header_line }
@@ -64,7 +64,7 @@ fn add_row(piece: &mut Piece, row: &InRow)
     add_op(piece, &row.op);
 }
 
-// Adds what stands behind the session.
+// Adds the fields after the session, and the end of the line.
 fn add_op(piece: &mut Piece, op: &Op)
     requires { array_vec_len piece.old ≤ 65400 }
     ensures bytes { piece.new.items ≡ piece.old.items ++ op_tail op.now }
@@ -84,7 +84,7 @@ fn add_op(piece: &mut Piece, op: &Op)
     push_str(piece, "\n");
 }
 
-// Adds a comma and a column with this rule.
+// Adds a comma and the text of a column with this rule.
 fn add_column(piece: &mut Piece, rule: Rule, number: u64)
     requires { array_vec_len piece.old ≤ 65515 }
     ensures bytes { piece.new.items ≡ piece.old.items ++ (codes "," ++ text_by rule number) }

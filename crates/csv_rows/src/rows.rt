@@ -1,4 +1,4 @@
-//! What is read, and why nothing is.
+//! Rows, and why a text has none.
 ghost use Rattle.std.specs.Prelude.{◌≡◌};
 
 use plain_list::Op;
@@ -6,14 +6,14 @@ use std::alloc::{AllocError, AllocFailed};
 use std::marker::Model;
 use thiserror::Error;
 
-/// An operation, and the session that asks for it.
+/// An operation and the session that calls it.
 #[derive(Clone, Copy, Debug, PartialEq, Eq)]
 pub struct InRow {
     pub session: u8,
     pub op: Op,
 }
 
-/// Rows of an input, in order. Each keeps the rules of its columns, and there are at most 65,536.
+/// The rows of an input, in order. Each keeps the rules of its columns, and there are at most 65,536.
 #[derive(Drop)]
 pub struct Rows {
     items: Vec<InRow>,
@@ -49,19 +49,19 @@ impl Rows {
     }
 }
 
-/// Why bytes give no rows. Records are numbered from 0, the header, so the first row is 1.
+/// Why a text has no rows. The header is record 0, so the first row is row 1.
 #[derive(Clone, Copy, Debug, PartialEq, Eq, Error)]
 pub enum RowsFault {
-    /// The bytes begin with two byte order marks, or the first record isn't the header, or there is none.
+    /// The first record isn't the header, or there is none, or the text begins with two byte order marks.
     #[error("the first record isn't the header")]
     Header,
-    /// The record of this row has too few fields, or too many.
+    /// The record of this row has too few or too many fields.
     #[error("row {row} has another number of fields")]
     Csv { row: u32 },
-    /// This column, counted from 1, is the leftmost of its row that breaks its rule.
+    /// This column, counted from 1, is the leftmost column of the row that breaks its rule.
     #[error("row {row}: column {column} breaks its rule")]
     Field { row: u32, column: u8 },
-    /// A record follows the last row that there may be.
+    /// A record comes after the greatest number of rows.
     #[error("too many rows")]
     TooMany,
     #[error("out of memory")]
@@ -88,7 +88,7 @@ impl<T: Drop> From<AllocFailed<T>> for RowsFault {
     }
 }
 
-/// What is wrong with a record: it has another number of fields, or a column breaks its rule.
+/// What is wrong with a record: its number of fields, or a column that breaks its rule.
 #[derive(Clone, Copy)]
 pub enum Wrong {
     Length,

@@ -1,4 +1,4 @@
-//! Texts of records that are read as rows of any type.
+//! Reading texts of records as rows of any type.
 ghost use Rattle.std.specs.Prelude.{◌≡◌, ◌≢◌, ◌<◌, ◌+◌, ◌∷◌, ◌++◌, ℕ, List, [], Ok, Err, IfOk, IfErr, length};
 ghost use Rattle.std.specs.Bool.{MatchBool};
 ghost use Rattle.csv.specs.Records.{fields_of};
@@ -11,27 +11,27 @@ use crate::rows::{RowsFault, Wrong};
 use csv::{ByteRecord, Reader};
 use std::alloc::Global;
 
-/// How the rows of one kind of text are read, each behind those before it. What a value keeps of the earlier rows, so that it needn't go
-/// over them again, is its own affair.
+/// How the records of one kind of text are read as rows. Each row may depend on the rows before it. An implementation
+/// may keep what it needs of these rows, so that it need not go over them again.
 pub trait ReadsRow: Drop {
     /// What a record says.
     type Row: Copy;
 
-    /// The header, how many rows there may be, and what a record says behind the rows before it.
+    /// The header, the greatest number of rows, and what a record says after the rows before it.
     ghost table: { Table Self.Row };
 
-    /// What a value keeps is true of these rows.
+    /// What a value keeps of earlier rows is true of these rows.
     ghost knows: { Self → List Self.Row → Type 0 };
 
-    /// How many rows there may be.
+    /// Returns the greatest number of rows.
     fn most(&self) -> u32
         ensures { result ≡ table.most };
 
-    /// Whether a record is the header.
+    /// Returns whether a record is the header.
     fn is_header(&self, fields: &ByteRecord) -> bool
         ensures { result ≡ is_header_of table (fields_of fields.now) };
 
-    /// What a record says behind these rows, or what is wrong with it.
+    /// Returns the row that a record says after these rows, or what is wrong with the record.
     fn row(&mut self, earlier: &[Self::Row], fields: &ByteRecord) -> Result<Self::Row, Wrong>
         requires few { length earlier.now < table.most }
         requires knows { knows self.old earlier.now }
@@ -39,9 +39,9 @@ pub trait ReadsRow: Drop {
         ensures knows { IfOk result (λ row. knows self.new (earlier.now ++ row ∷ [])) };
 }
 
-/// The rows of a text: a header, and then at most as many rows as there may be.
+/// Reads the rows of a text: a header, and then at most `most` rows.
 ///
-/// One byte order mark may stand in front. Empty lines are no records.
+/// One byte order mark may precede the header. Empty lines are not records.
 pub fn read_table<R: ReadsRow>(
     alloc: Global,
     bytes: &[u8],
@@ -61,7 +61,7 @@ pub fn read_table<R: ReadsRow>(
     read_whole(alloc, &mut kind, &mut reader, &mut record)
 }
 
-// All rows that a reader gives from the start.
+// Reads all rows from the start of a text.
 fn read_whole<R: ReadsRow>(
     alloc: Global,
     kind: &mut R,
@@ -100,7 +100,7 @@ fn read_title<R: ReadsRow>(
     Ok(())
 }
 
-// The rows below the header.
+// Reads the rows after the header.
 fn read_below<R: ReadsRow>(
     kind: &mut R,
     reader: &mut Reader<&[u8]>,
@@ -128,7 +128,7 @@ fn read_below<R: ReadsRow>(
     Ok(())
 }
 
-// The row behind so many, and whether there is one.
+// Reads the row after `before` others, and returns whether there is one.
 fn read_row<R: ReadsRow>(
     kind: &mut R,
     reader: &mut Reader<&[u8]>,

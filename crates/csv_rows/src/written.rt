@@ -1,9 +1,9 @@
-//! Rows in the very form that `write_rows` gives them, read in one pass over their bytes.
+//! Reading rows in exactly the form that `write_rows` gives them, in one pass over the bytes.
 //!
-//! Most inputs have that form: no quotes, lines that end with a line feed, numbers without leading zeros. Of any other
-//! text, and of one with a fault, nothing is said here: `read` has `csv` decide.
+//! Most inputs have this form: no quotes, lines that end with a line feed, numbers without leading zeros. For any other
+//! text, and for a text with a fault, this module returns nothing. Then `read` lets `csv` decide.
 //!
-//! A function here is left by `let else`, not by `?`, which takes twice the proof where a part is an `Option`.
+//! The functions return early by `let else` instead of `?`. For a part that is an `Option`, `?` takes twice the proof.
 ghost use Rattle.std.specs.Prelude.{◌≡◌, ◌≢◌, ◌≤◌, ◌<◌, ℕ, List, ◌++◌, codes, IfOk, IfErr, IfSome, MatchOption};
 ghost use Rattle.std.specs.Fmt.{decimal};
 ghost use Rattle.plain_list.specs.Answer.{IsValid, FitsOp};
@@ -20,10 +20,10 @@ use crate::rows::{InRow, Rows, RowsFault};
 use plain_list::Op;
 use std::alloc::Global;
 
-// Room is taken at once for the rows that a text of this many bytes a row has.
+// The number of bytes in a row by which memory for all rows is taken at the start.
 const BYTES_A_ROW: usize = 32;
 
-/// The rows of a text that `write_rows` writes of them; none where it is another text.
+/// Returns the rows of a text, if it is exactly the text that `write_rows` writes for them.
 pub(crate) fn written_rows(alloc: Global, text: &[u8]) -> Result<Option<Rows>, RowsFault>
     ensures rows { IfOk result (λ o. IfSome o (λ rows. (text.now ≡ rows_text rows) × AreInRows rows)) }
     ensures fault { IfErr result (λ e. e ≡ RowsFault.Memory) }
@@ -65,7 +65,7 @@ fn behind_front<'a>(text: &'a [u8], front: &[u8]) -> Option<&'a [u8]>
     text.strip_prefix(front)
 }
 
-// A row, and what stands behind its line.
+// Returns a row, and the text after its line.
 fn take_row(text: &[u8]) -> Option<(InRow, &[u8])>
     ensures line { IfSome result (λ p. text.now ≡ row_line p.0 ++ p.1.now) }
     ensures rules { IfSome result (λ p. IsInRow p.0) }
@@ -83,7 +83,7 @@ fn take_row(text: &[u8]) -> Option<(InRow, &[u8])>
     Some((row, rest))
 }
 
-// What the fields behind the session say, and what stands behind their line.
+// Returns the operation that the fields after the session say, and the text after their line.
 fn take_op(text: &[u8]) -> Option<(Op, &[u8])>
     ensures tail { IfSome result (λ p. text.now ≡ op_tail p.0 ++ p.1.now) }
     ensures rules { IfSome result (λ p. IsValid p.0 × FitsOp p.0) }
@@ -94,7 +94,7 @@ fn take_op(text: &[u8]) -> Option<(Op, &[u8])>
     let [first, ..] = rest else {
         return None;
     };
-    // Each word is taken by code of its own, in which its rules are constants.
+    // Each word has code of its own, in which its rules are constants.
     match *first {
         b'p' => take_as(Word::Put, rest),
         b'm' => take_as(Word::Move, rest),
@@ -106,7 +106,7 @@ fn take_op(text: &[u8]) -> Option<(Op, &[u8])>
     }
 }
 
-// The same of a text that begins with this word.
+// The same for a text that begins with this word.
 #[inline(always)]
 fn take_as(word: Word, text: &[u8]) -> Option<(Op, &[u8])>
     ensures tail { IfSome result (λ p. codes "," ++ text.now ≡ op_tail p.0 ++ p.1.now) }
@@ -121,7 +121,7 @@ fn take_as(word: Word, text: &[u8]) -> Option<(Op, &[u8])>
     Some((op_of(word, columns), rest))
 }
 
-// The columns behind a word, and what stands behind their line.
+// Returns the columns after a word, and the text after their line.
 #[inline(always)]
 fn take_columns(word: Word, text: &[u8]) -> Option<(Columns<u64>, &[u8])>
     ensures texts { IfSome result (λ p. text.now ≡ line_then (column_texts word p.0) p.1.now) }
@@ -161,7 +161,7 @@ fn take_columns(word: Word, text: &[u8]) -> Option<(Columns<u64>, &[u8])>
     Some((columns, rest))
 }
 
-// A comma and a column that keeps a rule, and what stands behind it.
+// Returns the number of a column after a comma, if it keeps the rule, and the text after it.
 #[inline(always)]
 fn take_column(rule: Rule, text: &[u8]) -> Option<(u64, &[u8])>
     ensures text { IfSome result (λ p. text.now ≡ codes "," ++ (text_by rule p.0 ++ p.1.now)) }
@@ -185,7 +185,7 @@ fn take_field(rule: Rule, text: &[u8]) -> Option<(u64, &[u8])>
     }
 }
 
-// A number between these two, and what stands behind it. It has no leading zero, and at most nineteen digits.
+// Returns a number from `low` to `high`, and the text after it. The number has no leading zero and at most 19 digits.
 fn take_number(text: &[u8], low: u64, high: u64) -> Option<(u64, &[u8])>
     ensures text { IfSome result (λ p. text.now ≡ decimal p.0 ++ p.1.now) }
     ensures between { IfSome result (λ p. (low ≤ p.0) × (p.0 ≤ high)) }

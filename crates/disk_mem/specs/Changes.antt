@@ -1,8 +1,8 @@
--- A file under the calls that change or sync it: what a read gives, and what a crash may leave.
+-- A file and the calls that change or sync it: what a read returns, and what a crash may leave.
 use Rattle.std.specs.Prelude.{ℕ, ◌+◌, Bool, true, false, List, [], ◌∷◌, ◌++◌, length, take, drop}
 use Rattle.disk_mem.specs.Pending.{Pending, settled, after_write, after_cut}
 
--- a call that changes or syncs, with what came of it
+-- a call that changes or syncs the file, and its result
 pub data Change : Type 0 where
   wrote : ℕ → List ℕ → Change
   failed_write : ℕ → ℕ → Change
@@ -11,7 +11,7 @@ pub data Change : Type 0 where
   synced : Change
   failed_sync : Change
 
--- whether the call was answered Ok
+-- whether the call returned Ok
 abbrev pub went_well : Change → Bool
 went_well (wrote at piece) = true
 went_well (failed_write at n) = false
@@ -20,7 +20,7 @@ went_well (failed_cut n) = false
 went_well synced = true
 went_well failed_sync = false
 
--- what a read gives, and what a crash may leave
+-- what a read returns, and what a crash may leave
 pub record File : Type 0 where
   pub held : List ℕ
   pub pending : Pending
@@ -33,7 +33,7 @@ started bytes = record { held = bytes; pending = settled bytes }
 abbrev pub over : ℕ → List ℕ → List ℕ → List ℕ
 over at piece old = take at old ++ piece ++ drop (at + length piece) old
 
--- what a read gives after a call: what it gave before, where the call failed
+-- what a read returns after a call; a call that failed changes nothing
 abbrev pub held_after : List ℕ → Change → List ℕ
 held_after held (wrote at piece) = over at piece held
 held_after held (failed_write at n) = held
@@ -42,7 +42,8 @@ held_after held (failed_cut n) = held
 held_after held synced = held
 held_after held failed_sync = held
 
--- what a crash may leave after a call: a call that failed touches what it would have touched, and a failed sync fixes nothing
+-- what a crash may leave after a call; a failed write or cut counts as one that succeeded, and a failed sync fixes
+-- nothing
 abbrev pub pending_after : File → Change → Pending
 pending_after f (wrote at piece) = after_write at (length piece) f.pending
 pending_after f (failed_write at n) = after_write at n f.pending
@@ -55,12 +56,12 @@ pending_after f failed_sync = f.pending
 abbrev pub changed : File → Change → File
 changed f c = record { held = held_after f.held c; pending = pending_after f c }
 
--- the file after some calls, in order
+-- the file after several calls, in order
 abbrev pub changed_by : File → List Change → File
 changed_by f [] = f
 changed_by f (c ∷ cs) = changed_by (changed f c) cs
 
--- how many bytes the writes have written
+-- how many bytes the successful writes brought
 abbrev pub written : List Change → ℕ
 written [] = 0
 written (wrote at piece ∷ cs) = length piece + written cs

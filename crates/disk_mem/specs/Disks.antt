@@ -6,6 +6,6 @@ use Rattle.disk_mem.specs.Drives.{DiskView}
 abbrev pub disk_view : Inside → DiskView
 disk_view a = record { plan = a.plan; first = a.file.first; changes = a.file.changes; room = a.file.room; faults = a.faults; attaches = a.attaches.items }
 
--- each call that may still be made can be noted
+-- the record has room for each call that may still be made
 abbrev pub IsDisk : Inside → Type 0
 IsDisk a = a.plan.left ≤ a.file.spare

@@ -1,4 +1,4 @@
--- What is known of a drive in memory.
+-- A drive in memory as contracts see it.
 use Rattle.std.specs.Prelude.{◌≡◌, ℕ, ◌+◌, ◌≤◌, nat_le, nat_lt, Bool, ◌&&◌, if◌then◌else◌, List, [], ◌∷◌, ◌++◌, length, take, map, Option, Some, None, Result, is_ok}
 use Rattle.causes.specs.Causes.{one_more}
 use Rattle.disk_trait.specs.Drive.{Attach, Drive}
@@ -9,8 +9,8 @@ use Rattle.disk_mem.specs.Plans.{PlanView, planned, verdict_of, is_passed, is_ma
 use Rattle.disk_mem.specs.Pending.{IsImage}
 use Rattle.disk_mem.specs.Changes.{Change, wrote, failed_write, did_cut, failed_cut, synced, failed_sync, went_well, File, started, changed_by, written}
 
--- which calls fail, and how many may still be made; the bytes at the start; the calls that changed or synced since; how many bytes there is
--- room for; how often a call has failed; the attaches that were answered Ok
+-- the plan; the bytes at the start; the calls that changed or synced since; the room in bytes; the number of faults;
+-- the attaches that returned Ok
 pub record DiskView : Type 0 where
   pub plan : PlanView
   pub first : List ℕ
@@ -19,7 +19,7 @@ pub record DiskView : Type 0 where
   pub faults : ℕ
   pub attaches : List Attach
 
--- the file at a moment, which is after so many calls that changed or synced
+-- the file at moment m, which is after m calls that changed or synced
 abbrev pub file_at : DiskView → ℕ → File
 file_at d m = changed_by (started d.first) (take m d.changes)
 
@@ -27,11 +27,11 @@ file_at d m = changed_by (started d.first) (take m d.changes)
 abbrev pub file_now : DiskView → File
 file_now d = changed_by (started d.first) d.changes
 
--- what each call so far has answered, where a further one would reach the file: a call that goes past the bound is in no list
+-- the result of each call so far; None after the bound on calls is reached, since calls beyond it are in no list
 abbrev pub calls_of : DiskView → Option (List Bool)
 calls_of d = if nat_lt 0 d.plan.left then Some (map went_well d.changes) else None
 
--- A crash may leave the images of the file, now or at each moment.
+-- The drive of this record. A crash now, or at an earlier moment, may leave the images of the file at that moment.
 abbrev pub drive_by : List ℕ → List Change → ℕ × Option (List Bool) × List Attach → Drive
 drive_by first changes counts = record {
   bytes = Some (changed_by (started first) changes).held;
@@ -46,20 +46,20 @@ drive_by first changes counts = record {
 abbrev pub mem_drive : DiskView → Drive
 mem_drive d = drive_by d.first d.changes (d.faults, calls_of d, d.attaches)
 
--- whether the next call of a kind passes, where no bound on bytes stands in its way
+-- whether the next call of a kind passes, apart from bounds on bytes
 abbrev pub passes : DiskCall → DiskView → Bool
 passes call d = is_passed (verdict_of call d.plan)
 
--- whether the next write of so many bytes at a place passes
+-- whether the next write of n bytes at a place passes
 abbrev pub write_passes : ℕ → ℕ → DiskView → Bool
 write_passes at n d = passes Write d && (nat_le (at + n) d.room && nat_le (written d.changes + n) d.room)
 
--- a call that reaches the file, as the one that is noted: one past the bound isn't
+-- the change that a call records; a call beyond the bound records none
 abbrev pub noted_as : DiskCall → DiskView → Change → List Change
 noted_as call d change = if is_made (verdict_of call d.plan) then change ∷ [] else []
 
--- The next call of a kind: whether it passes, and what it leaves. It is counted in the plan, what it did is noted, and a call that fails
--- raises the count of faults, which stays at the greatest number of 64 bits.
+-- The next call of a kind: whether it passes, and what it leaves. The plan counts it and the record keeps what it did.
+-- A call that fails raises the count of faults, up to 2^64 - 1.
 pub record Makes {T E : Type 0} (call : DiskCall) (ok : Bool) (done : List Change) (old new : DiskView) (result : Result T E) : Type 0 where
   pub passes : is_ok result ≡ ok
   pub after : new ≡ record {
@@ -71,7 +71,7 @@ pub record Makes {T E : Type 0} (call : DiskCall) (ok : Bool) (done : List Chang
     attaches = old.attaches;
   }
 
--- The next attach, whose name has found memory: one that passes is noted.
+-- The next attach, if memory suffices for its name. An attach that passes is recorded.
 pub record MakesAttach {T E : Type 0} (name : List ℕ) (make : Bool) (old new : DiskView) (result : Result T E) : Type 0 where
   pub ok : is_ok result ≡ passes call.Attach old
   pub after : new ≡ record {
@@ -87,7 +87,7 @@ pub record MakesAttach {T E : Type 0} (name : List ℕ) (make : Bool) (old new :
 abbrev pub MakesPlain : {T E : Type 0} → DiskCall → DiskView → DiskView → Result T E → Type 0
 MakesPlain call old new result = Makes call (passes call old) [] old new result
 
--- the next write: one that fails, as planned or for want of room, is noted as failed
+-- the next write; if it fails, as planned or for lack of room, it is recorded as failed
 abbrev pub MakesWrite : {T E : Type 0} → DiskView → DiskView → ℕ → List ℕ → Result T E → Type 0
 MakesWrite old new at piece result =
     Makes Write (write_passes at (length piece) old) (noted_as Write old (if write_passes at (length piece) old then wrote at piece else failed_write at (length piece))) old new result

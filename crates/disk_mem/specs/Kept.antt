@@ -11,13 +11,13 @@ use Rattle.disk_mem.specs.Scans.{file_by}
 abbrev pub recorded_view : Inside → FileView
 recorded_view a = record { first = a.first.items; changes = changes_of a.pieces.items a.touches.items; room = a.room; spare = vec_capacity a.touches - vec_len a.touches }
 
--- the bytes held and the pieces are those of the record
+-- the bytes held and the list of pieces are those of the record
 pub record IsRecordOf (first held pieces : List ℕ) (touches : List Touch) : Type 0 where
   pub bytes : held ≡ (file_by first pieces touches).held
   pub lengths : length pieces ≡ written (changes_of pieces touches)
   pub stored : All (IsStored (length pieces)) touches
 
--- and there is room for more of both
+-- the same, and both lists have room for all later writes
 pub record IsKept (a : Inside) : Type 0 where
   pub record_of : IsRecordOf a.first.items a.held.items a.pieces.items a.touches.items
   pub room_for_pieces : a.room ≤ vec_capacity a.pieces

@@ -1,4 +1,4 @@
--- The laws of a drive hold of one in memory.
+-- A drive in memory obeys the laws of a drive.
 use Rattle.std.specs.Prelude.{◌≡◌, ℕ, ◌≤◌, List, length, take}
 use Rattle.std.proofs.Common.{sym, subst, arith}
 use Rattle.std.proofs.lemmas.List.{take_all}

@@ -1,4 +1,4 @@
--- Which calls fail: those that a plan lists by kind and number, and all past a bound on their number.
+-- Which calls fail: those that a plan lists by kind and number, and all beyond a bound on their number.
 use Rattle.std.specs.Prelude.{ℕ, ◌+◌, ◌-◌, ◌^◌, ◌<◌, ◌==◌, nat_lt, Bool, true, false, ◌&&◌, if◌then◌else◌, List}
 use Rattle.std.specs.List.{list_any}
 use Rattle.disk_mem.specs.declared.plans.DiskCall.{DiskCall}
@@ -8,17 +8,17 @@ use Rattle.disk_mem.specs.declared.plans.Numbers.{Numbers}
 use Rattle.disk_mem.specs.declared.plans.Verdict.{Verdict}
 use Rattle.disk_mem.specs.declared.plans.Verdict.TheVariants.{Passes, Fails, Past}
 
--- the calls that fail; how many of each kind were made; how many more of all kinds may be made
+-- the calls that fail; how many of each kind were made; how many more may be made in all
 pub record PlanView : Type 0 where
   pub failing : List Fail
   pub numbers : Numbers
   pub left : ℕ
 
--- no call was made
+-- the numbers before any call
 abbrev pub no_calls : Numbers
 no_calls = record { attach = 0; len = 0; read = 0; write = 0; cut = 0; sync = 0 }
 
--- each number, with the calls that may still be made, stays a number of 64 bits
+-- each number fits in 64 bits, even after all calls that may still be made
 pub record IsCounted (n : Numbers) (left : ℕ) : Type 0 where
   pub attach : n.attach + left < 2 ^ 64
   pub len : n.len + left < 2 ^ 64
@@ -45,7 +45,7 @@ counted Write n = record n { write = n.write + 1 }
 counted Cut n = record n { cut = n.cut + 1 }
 counted Sync n = record n { sync = n.sync + 1 }
 
--- whether two calls are of one kind
+-- whether two calls are of the same kind
 abbrev pub is_same : DiskCall → DiskCall → Bool
 is_same Attach Attach = true
 is_same Len Len = true
@@ -55,25 +55,25 @@ is_same Cut Cut = true
 is_same Sync Sync = true
 is_same _ _ = false
 
--- whether the call of this kind and number is to fail
+-- whether the plan lists the call of this kind and number
 abbrev pub is_listed : DiskCall → ℕ → List Fail → Bool
 is_listed call number failing = list_any (λ f. is_same f.call call && (f.number == number)) failing
 
--- what becomes of the next call of a kind
+-- what happens to the next call of a kind
 abbrev pub verdict_of : DiskCall → PlanView → Verdict
 verdict_of call plan = if nat_lt 0 plan.left then (if is_listed call (number_of call plan.numbers + 1) plan.failing then Fails else Passes) else Past
 
--- the plan after that call: one past the bound isn't counted
+-- the plan after this call; a call beyond the bound isn't counted
 abbrev pub planned : DiskCall → PlanView → PlanView
 planned call plan = if nat_lt 0 plan.left then record { failing = plan.failing; numbers = counted call plan.numbers; left = plan.left - 1 } else plan
 
--- whether a call is neither listed nor past the bound
+-- whether a call is neither listed nor beyond the bound
 abbrev pub is_passed : Verdict → Bool
 is_passed Passes = true
 is_passed Fails = false
 is_passed Past = false
 
--- whether a call reaches the file: one past the bound doesn't
+-- whether a call reaches the file; a call beyond the bound doesn't
 abbrev pub is_made : Verdict → Bool
 is_made Passes = true
 is_made Fails = true

@@ -1,4 +1,4 @@
--- What a read gives is one of the images, after whatever calls.
+-- What a read returns is one of the crash images, after whatever calls.
 use Rattle.std.specs.Prelude.{◌≡◌, ℕ, ◌+◌, ◌-◌, ◌<◌, ◌≤◌, nat_le, min, max, Bool, false, true, ◌||◌, List, [], ◌∷◌, ◌++◌, length, get_or, take, drop}
 use Rattle.std.proofs.Common.{refl, sym, ◌∙◌, ap, arith, inl, inr, ◌⊎◌, length-take, length-drop, length-append}
 use Rattle.std.proofs.lemmas.List.{get_or-take, get_or-drop, get_or_append_left, get_or-append_right}
@@ -10,7 +10,7 @@ use mathlib.Core.Bool.{true≢false}
 use Rattle.disk_mem.specs.Pending.{Pending, is_in, is_free, IsImage, after_write, after_cut}
 use Rattle.disk_mem.specs.Changes.{Change, wrote, failed_write, did_cut, failed_cut, synced, failed_sync, File, started, over, changed, changed_by}
 
--- what a read gives is an image, and no byte before the least cut is behind the end of the file or of the stable bytes
+-- what a read returns is an image, and the least cut length is within the file and within the stable bytes
 pub record IsSound (f : File) : Type 0 where
   pub image : IsImage f.pending f.held
   pub held_to_cut : f.pending.cut ≤ length f.held
@@ -30,7 +30,7 @@ both_false x y left right = ap (λ (t : Bool). t || y) left ∙ right
 pub le_or_lt : (a b : ℕ) → (a ≤ b) ⊎ (b < a)
 le_or_lt a b = elim (leb_tells a b) [ inl t ↦ inl t.1 | inr f ↦ inr f.1 ]
 
--- a place that isn't free after a write is before the least cut, outside the range, and wasn't free before
+-- a place that isn't free after a write wasn't free before
 pub free_before_write : (p : Pending) (at n i : ℕ) → is_free (after_write at n p) i ≡ false → is_free p i ≡ false
 free_before_write p at n i free =
     both_false (nat_le p.cut i) (list_any (is_in i) p.touched) (or-first (nat_le p.cut i) (is_in i (at, n) || list_any (is_in i) p.touched) free) (or-second (is_in i (at, n)) (list_any (is_in i) p.touched) (or-second (nat_le p.cut i) (is_in i (at, n) || list_any (is_in i) p.touched) free))
@@ -54,7 +54,7 @@ free_before_cut p n i free =
     let below : i < min p.cut n = below_cut (after_cut n p) i free in
     both_false (nat_le p.cut i) (list_any (is_in i) p.touched) (lt-leb p.cut i (omega arith)) (or-second (nat_le (min p.cut n) i) (list_any (is_in i) p.touched) free)
 
--- a byte of what a write leaves, outside its range
+-- a write keeps each byte outside its range
 get_or-over-front : (at : ℕ) (piece old : List ℕ) (i : ℕ) → i < at → i < length old → get_or (over at piece old) i 0 ≡ get_or old i 0
 get_or-over-front at piece old i before within =
     let front : i < length (take at old) = omega (arith, length-take at old) in

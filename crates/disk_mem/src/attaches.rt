@@ -4,7 +4,7 @@ ghost use Rattle.std.specs.Prelude.{◌≡◌, IfOk};
 use std::alloc::{AllocError, Global};
 use std::marker::Model;
 
-/// An attach that was answered Ok.
+/// An attach that returned Ok.
 #[derive(Drop)]
 pub struct Attached {
     name: String,
@@ -34,7 +34,7 @@ impl Attached {
         self.name.as_str()
     }
 
-    /// Whether the file might be made.
+    /// Returns whether the attach might create the file.
     pub fn makes(&self) -> bool
         ensures { result ≡ self.now.make }
     {

@@ -11,10 +11,10 @@ use std::alloc::{AllocError, Global};
 use std::marker::Model;
 use zorder::Memory;
 
-/// Why no image was picked.
+/// Why `pick` returned no image.
 #[derive(Clone, Copy, Debug, PartialEq, Eq)]
 pub enum PickFault {
-    /// The moment is above the clock, which stands at `moments`.
+    /// The moment is greater than the clock, whose value is `moments`.
     NoMoment { moments: u64 },
     /// Memory ran out.
     Memory,
@@ -30,8 +30,8 @@ impl From<AllocError> for PickFault {
     }
 }
 
-/// A drive in memory that holds one file, which is there from the start and has each name. It takes all its memory when it is made, but
-/// for the names of attaches.
+/// A drive in memory with one file. The file exists from the start, and every name leads to it. The drive takes all its
+/// memory when it is created, except for the names of attaches.
 #[derive(Drop)]
 pub struct MemDisk {
     plan: Plan,
@@ -52,7 +52,7 @@ impl Model for MemDisk {
     ghost invariant = { IsDisk };
 }
 
-/// Raises a count of faults, which stays at its end.
+/// Raises a count of faults by one, up to 2^64 - 1.
 fn fault(faults: &mut u64) -> DiskFault
     ensures { faults.new ≡ one_more faults.old }
 {
@@ -60,7 +60,7 @@ fn fault(faults: &mut u64) -> DiskFault
     DiskFault
 }
 
-/// Copies what lies in a file from a place on, as much as there is and fits, and says how much that is.
+/// Copies the bytes of a file from `at` on, as many as there are and fit, and returns their number.
 fn copy_out(held: &[u8], at: usize, into: &mut [u8]) -> usize
     ensures count { result ≡ min (length into.old) (length held.now - at) }
     ensures bytes { take result into.new ≡ take result (drop at held.now) }
@@ -77,9 +77,10 @@ impl MemDisk {
     ghost use Rattle.disk_mem.specs.Plans.{no_calls};
     ghost use Rattle.disk_mem.specs.Drives.{file_at, file_now, mem_drive, MakesPlain, MakesWrite, MakesCut, MakesSync};
 
-    /// A drive whose file has these bytes and nothing pending. `room` bounds where a write may end and how many bytes all writes may bring,
-    /// `calls` how many calls reach the file, and each call in `failing` is to fail. A call past `calls` fails and leaves the file, its
-    /// images and the clock as they were: it counts as a fault, and is in no list of calls.
+    /// Creates a drive whose file has these bytes, with nothing pending. No write may end beyond `room` bytes, and all
+    /// writes together may bring at most `room` bytes. At most `calls` calls reach the file, and the calls in `failing`
+    /// fail. A call beyond `calls` fails and leaves the file, its images and the clock unchanged. It counts as a fault
+    /// and is in no list of calls.
     pub fn new(
         alloc: Global,
         bytes: Vec<u8>,
@@ -104,29 +105,30 @@ impl MemDisk {
         })
     }
 
-    /// The clock: how many calls have changed or synced the file, failed ones included.
+    /// Returns the clock: how many calls have changed or synced the file, including those that failed.
     pub fn moments(&self) -> u64
         ensures { result ≡ length self.now.changes }
     {
         self.file.moments() as u64
     }
 
-    /// What a read of the whole file gives.
+    /// Returns the bytes that a read of the whole file returns.
     pub fn bytes(&self) -> &[u8]
         ensures { result.now ≡ (file_now self.now).held }
     {
         self.file.held()
     }
 
-    /// The attaches that were answered Ok, in order.
+    /// Returns the attaches that returned Ok, in order.
     pub fn attaches(&self) -> &[Attached]
         ensures { result.now ≡ self.now.attaches }
     {
         &self.attaches
     }
 
-    /// One image that a crash at a moment may leave: of all lengths that it may have there the one nearest to `len`, and `fill`, laid
-    /// from the file's start on and repeated, in every free byte.
+    /// Returns one image that a crash at a moment may leave. Of all lengths that the image may have, it has the one
+    /// nearest to `len`. Each byte that may be anything is taken from `fill`, which is repeated from the start of the
+    /// file on.
     pub fn pick(&self, moment: u64, len: u64, fill: &[u8]) -> Result<Vec<u8>, PickFault>
         requires { 0 < length fill.now }
         ensures no_moment { (result ≡ Err (PickFault.NoMoment (length self.now.changes))) ↔ (length self.now.changes < moment) }
@@ -153,7 +155,8 @@ impl MemDisk {
         }
     }
 
-    /// A write that fails, as planned or for want of room, touches its range and leaves what a read gives.
+    /// Makes a write. If it fails, as planned or for lack of room, it touches its range, and a read returns the same as
+    /// before.
     fn make_write(&mut self, at: usize, piece: &[u8]) -> Result<(), DiskFault>
         requires { at + length piece.now ≤ 2 ^ 40 }
         ensures makes { MakesWrite self.old self.new at piece.now result }
@@ -174,7 +177,7 @@ impl MemDisk {
         }
     }
 
-    /// A cut that fails touches what it would have, and leaves what a read gives.
+    /// Makes a cut. If it fails, a crash may leave it as if it were made, and a read returns the same as before.
     fn make_cut(&mut self, len: usize) -> Result<(), DiskFault>
         ensures makes { MakesCut self.old self.new len result }
         ensures small { OnErr result (self.old.faults < 2 ^ 64) }
@@ -192,7 +195,7 @@ impl MemDisk {
         }
     }
 
-    /// A sync that fails fixes nothing.
+    /// Makes a sync. If it fails, it fixes nothing.
     fn make_sync(&mut self) -> Result<(), DiskFault>
         ensures makes { MakesSync self.old self.new result }
         ensures small { OnErr result (self.old.faults < 2 ^ 64) }
@@ -220,7 +223,7 @@ impl LogDisk for MemDisk {
 
     ghost keeps_laws = { mem_laws };
 
-    /// The file is there whatever it is called. Where its name finds no memory, no call was made.
+    /// Each name leads to the one file, which exists. If the name finds no memory, no call is counted.
     fn attach(&mut self, alloc: Global, name: &str, make: bool) -> Result<(), AttachFault>
         ensures makes { result ≢ Err AttachFault.Memory → MakesAttach name.now make self.old self.new result }
         ensures memory { result ≡ Err AttachFault.Memory → self.new ≡ self.old }

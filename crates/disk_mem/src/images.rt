@@ -1,4 +1,4 @@
-//! One image of a file, made of its record.
+//! Building one crash image of a file from its record.
 ghost use Rattle.std.specs.Prelude.{◌≡◌, ◌<◌, ◌≤◌, nat_le, length, IfOk};
 ghost use Rattle.std.specs.List.{All};
 ghost use Rattle.disk_mem.specs.Pending.{Paints, Picks};
@@ -9,7 +9,7 @@ use crate::scans::Scan;
 use crate::touches::{Touch, paint_touched, replayed};
 use std::alloc::{AllocError, Global};
 
-/// The stable bytes up to a place, and a repeated pattern from there on.
+/// Returns the stable bytes up to `cut`, and a repeated pattern from there to `len`.
 fn unpainted(
     alloc: Global,
     stable: &[u8],
@@ -34,7 +34,8 @@ fn unpainted(
     Ok(image)
 }
 
-/// The image after some calls whose length is the nearest to this one, with a repeated pattern in its free bytes.
+/// Returns the crash image after these calls with the length nearest to `len`, and a repeated pattern in its free
+/// bytes.
 pub fn image_of(
     alloc: Global,
     first: &[u8],

@@ -1,12 +1,12 @@
-//! A log's device in memory: it keeps the crash model and fails on plan, for tests of crashes and faults.
+//! A drive in memory that implements the crash model and fails on plan, for tests of crashes and faults.
 //!
-//! Contracts see a `MemDisk` as its plan, the bytes it was made with and the list of calls that changed or synced it.
-//! What a read gives and what a crash at each moment may leave are functions of that list. It is a `LogDisk` whose
-//! content is known: each call answers its fault exactly where it is listed or goes past a bound. `MemDisk::pick` gives
-//! one image of a moment, with a chosen length and chosen bytes where any may stand. No call takes memory but `new`, `pick`
-//! and an attach, which keeps its name.
+//! Contracts see a `MemDisk` as its plan, the bytes at its start, and the list of calls that changed or synced the
+//! file. This list determines what a read returns, and what a crash at each moment may leave. `MemDisk` is a `LogDisk`
+//! whose content is known. A call fails if and only if the plan lists it or it goes beyond a bound. `MemDisk::pick`
+//! returns one crash image of a moment, with a chosen length, and with chosen bytes where any byte is possible. Only
+//! `new`, `pick` and an attach (for its name) take memory.
 //!
-//! Not here: what a log makes of an image (`recovery`), a file of the machine (`disk_file`).
+//! Not here: what a log reads from an image (`recovery`), and a file of the machine (`disk_file`).
 #![tactic(auto)]
 
 mod attaches;

@@ -23,7 +23,7 @@ impl DiskCall {
     }
 }
 
-/// A call that fails: the one of its kind with this number. Each kind is counted by itself, from 1.
+/// A call that fails: the call of its kind with this number. Each kind is counted separately, from 1.
 #[derive(Clone, Copy, Debug, PartialEq, Eq)]
 pub struct Fail {
     pub call: DiskCall,
@@ -50,7 +50,7 @@ pub struct Numbers {
 }
 
 impl Numbers {
-    /// Counts one more call, and gives its number.
+    /// Counts one more call, and returns its number.
     fn add(&mut self, call: DiskCall) -> u64
         requires { number_of call self.old + 1 < 2 ^ 64 }
         ensures counted { self.new ≡ counted call self.old }
@@ -85,7 +85,7 @@ impl Numbers {
     }
 }
 
-/// What becomes of a call: it passes, it fails as planned, or it is past the bound and reaches nothing.
+/// What happens to a call: it passes, it fails as planned, or it is beyond the bound and doesn't reach the file.
 #[derive(Clone, Copy)]
 pub enum Verdict {
     Passes,
@@ -93,7 +93,7 @@ pub enum Verdict {
     Past,
 }
 
-/// The calls that are to fail, and how many may still be made.
+/// The calls that fail, and how many calls may still be made.
 #[derive(Drop)]
 pub struct Plan {
     failing: Vec<Fail>,
@@ -131,7 +131,7 @@ impl Plan {
         }
     }
 
-    /// Takes the next call of a kind, and says what becomes of it.
+    /// Counts the next call of a kind, and returns what happens to it.
     pub fn next(&mut self, call: DiskCall) -> Verdict
         ensures plan { self.new ≡ planned call self.old }
         ensures verdict { result ≡ verdict_of call self.old }

@@ -1,4 +1,4 @@
-//! A file in memory, with the record of all calls that changed or synced it.
+//! A file in memory with a record of all calls that changed or synced it.
 ghost use Rattle.std.specs.Prelude.{◌≡◌, ◌+◌, ◌^◌, ◌<◌, ◌≤◌, nat_le, ◌&&◌, [], length, IfOk};
 
 use crate::images::image_of;
@@ -6,7 +6,7 @@ use crate::touches::{Touch, put};
 use std::alloc::{AllocError, Global};
 use std::marker::Model;
 
-/// Its bytes at the start and now, and its record. It has room for each piece that a write may bring, so no call takes memory.
+/// The bytes at the start, the bytes now, and the record. Its memory suffices for all writes, so no call takes memory.
 #[derive(Drop)]
 pub struct RecordedFile {
     first: Vec<u8>,
@@ -63,7 +63,7 @@ impl RecordedFile {
         &self.held
     }
 
-    /// How many calls have changed or synced the file.
+    /// Returns how many calls have changed or synced the file.
     pub fn moments(&self) -> usize
         ensures { result ≡ length self.now.changes }
     {
@@ -77,7 +77,7 @@ impl RecordedFile {
         at + len <= self.room && self.pieces.len() + len <= self.room
     }
 
-    /// Notes a call that leaves what a read gives.
+    /// Records a call that leaves what a read returns.
     pub fn note(&mut self, touch: Touch)
         requires idle { IsIdle touch }
         requires spare { 0 < self.old.spare }
@@ -98,7 +98,7 @@ impl RecordedFile {
             from: self.pieces.len(),
             len: piece.len(),
         });
-        // Both have room for the piece, so neither of these can fail.
+        // Both lists have room for the piece, so neither call can fail.
         let _ = self.pieces.extend_from_slice(piece);
         let _ = put(&mut self.held, at, piece);
     }
@@ -111,7 +111,8 @@ impl RecordedFile {
         self.held.truncate(len);
     }
 
-    /// The image after so many calls whose length is the nearest to this one, with a repeated pattern in its free bytes.
+    /// Returns the crash image after `moment` calls with the length nearest to `len`, and a repeated pattern in its
+    /// free bytes.
     pub fn image(&self, moment: usize, len: usize, fill: &[u8]) -> Result<Vec<u8>, AllocError>
         requires moment { moment ≤ length self.now.changes }
         requires filled { 0 < length fill.now }

@@ -1,7 +1,8 @@
-//! What a record leaves fixed of a file: lengths, and where the last sync stands.
+//! The lengths that a record determines, and where its last successful sync is.
 use crate::touches::Touch;
 
-/// The lengths of a file after some entries of its record, and how many of them the last sync that succeeded ends.
+/// The lengths of a file after some entries of its record, and the number of entries up to the last sync that
+/// succeeded.
 #[derive(Clone, Copy)]
 pub struct Scan {
     pub len: usize,
@@ -17,7 +18,7 @@ impl Scan {
     ghost use Rattle.disk_mem.specs.Recorded.{IsStored};
     ghost use Rattle.disk_mem.specs.Scans.{scanned, IsSmall, IsScan};
 
-    /// Walks over a record of calls on a file that had these bytes and nothing pending.
+    /// Scans the record of a file that began with these bytes and nothing pending.
     pub fn of(first: &[u8], touches: &[Touch]) -> Scan
         requires { All IsSmall touches.now }
         ensures synced { result.synced ≤ length touches.now }

@@ -1,4 +1,4 @@
-//! A drive in memory may be sent to another thread, and shared with one.
+//! Checks at compile time that a drive in memory can be sent to other threads and shared with one.
 use crate::disk::MemDisk;
 
 fn sent<T: Send>() {}

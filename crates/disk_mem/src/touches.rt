@@ -1,4 +1,4 @@
-//! The record of the calls on a file: how an entry is replayed, and what it leaves free.
+//! The entries of a record: how each is replayed, and which bytes it leaves free.
 ghost use Rattle.std.specs.Prelude.{◌≡◌, ◌+◌, ◌<◌, ◌≤◌, length, IfOk, OnOk, OnErr, [], vec_capacity};
 ghost use Rattle.std.specs.List.{All, list_any};
 ghost use Rattle.disk_mem.specs.Pending.{is_in, Paints};
@@ -7,7 +7,7 @@ ghost use Rattle.disk_mem.specs.Recorded.{change_of, changes_of, IsStored, range
 
 use std::alloc::{AllocError, Global};
 
-/// An entry of the record. The bytes of a write lie in the record's pieces, from `from` on.
+/// An entry of the record. The bytes of a write are in the record's list of pieces, from `from` on.
 #[derive(Clone, Copy)]
 pub enum Touch {
     Wrote { at: usize, from: usize, len: usize },
@@ -19,7 +19,7 @@ pub enum Touch {
 }
 
 impl Touch {
-    /// The place and the length of what a write touches.
+    /// Returns the start and the length of the range that a write touches.
     fn range(self) -> Option<(usize, usize)>
         ensures { result ≡ range_of self }
     {
@@ -46,7 +46,7 @@ pub fn put(file: &mut Vec<u8>, at: usize, piece: &[u8]) -> Result<(), AllocError
     Ok(())
 }
 
-/// Does again what a call did to the bytes that a read gives.
+/// Applies an entry again to the bytes that a read returns.
 fn redo(file: &mut Vec<u8>, touch: Touch, pieces: &[u8]) -> Result<(), AllocError>
     requires { IsStored (length pieces.now) touch }
     ensures { OnOk result (file.new.items ≡ held_after file.old.items (change_of pieces.now touch)) }
@@ -62,7 +62,7 @@ fn redo(file: &mut Vec<u8>, touch: Touch, pieces: &[u8]) -> Result<(), AllocErro
     }
 }
 
-/// What a read gave after some calls.
+/// Returns what a read returned after these entries.
 pub fn replayed(
     alloc: Global,
     first: &[u8],
@@ -79,7 +79,7 @@ pub fn replayed(
     Ok(file)
 }
 
-/// Puts a repeated pattern into the bytes of a range.
+/// Writes a repeated pattern into the bytes of a range.
 fn paint(image: &mut [u8], at: usize, len: usize, fill: &[u8])
     requires { 0 < length fill.now }
     ensures { Paints (λ i. is_in i (at, len)) fill.now (length image.old) image.old image.new }
@@ -90,7 +90,7 @@ fn paint(image: &mut [u8], at: usize, len: usize, fill: &[u8])
     }
 }
 
-/// Puts a repeated pattern into each range that these entries touch.
+/// Writes a repeated pattern into each range that these entries touch.
 pub fn paint_touched(image: &mut [u8], touches: &[Touch], fill: &[u8])
     requires { 0 < length fill.now }
     ensures { Paints (λ i. list_any (is_in i) (ranges_of [] touches.now)) fill.now (length image.old) image.old image.new }

@@ -5,15 +5,16 @@ use Rattle.disk_trait.specs.declared.disk.AttachFault.{AttachFault}
 use Rattle.disk_trait.specs.declared.disk.AttachFault.TheVariants.{Disk, Memory}
 use Rattle.disk_trait.specs.declared.disk.DiskFault.{DiskFault}
 
--- an attach that was answered Ok: the name, and whether the file might be made
+-- an attach that returned Ok: the name, and whether it might create the file
 pub record Attach : Type 0 where
   pub name : List ℕ
   pub make : Bool
 
--- what is known of a drive: the bytes that a read gives, none where its content isn't known; the images that a crash now may leave; the
--- clock, a number of moments; the images that a crash at some moment since an earlier one might have left; how often it has failed; what
--- each write, cut and sync so far has answered, true for Ok, in order, none where the drive keeps no such list; and the attaches so far that
--- were answered Ok, in order, the last of which is that of its file, none where it keeps no such list.
+-- What is known of a drive. `bytes` is what a read returns, or None if the content isn't known. `images` has the files
+-- that a crash now may leave. `clock` numbers the moments. `since` has the files that a crash at some moment from an
+-- earlier one on may have left. `faults` counts how often the drive failed. `calls` has the result of each write, cut
+-- and sync so far, in order, true for Ok, or None if the drive keeps no such list. `attaches` has each attach that
+-- returned Ok, in order, or None if the drive keeps no such list. The last one is of its file.
 pub record Drive : Type 1 where
   pub bytes : Option (List ℕ)
   pub images : List ℕ → Type 0
@@ -23,63 +24,63 @@ pub record Drive : Type 1 where
   pub calls : Option (List Bool)
   pub attaches : Option (List Attach)
 
--- new is old with these bytes at this place
+-- new is old with the piece written at `at`
 abbrev pub Holds : List ℕ → ℕ → List ℕ → List ℕ → Type 0
 Holds old at piece new = new ≡ take at old ++ piece ++ drop (at + length piece) old
 
--- any bytes in the range of a write, the same elsewhere; the length is the old one, or one that the write may have made
+-- any bytes in the range of a write, the old bytes elsewhere, and any length from the old one to that after the write
 pub record Torn (at n : ℕ) (old new : List ℕ) : Type 0 where
   pub before : take at new ≡ take at old
   pub after : drop (at + n) new ≡ drop (at + n) old
   pub no_shorter : length old ≤ length new
   pub no_longer : length new ≤ max (length old) (at + n)
 
--- any bytes from the length of a cut on, the same before it; the length is the old one, or one down to that of the cut
+-- the old bytes before a cut, any bytes after it, and any length from the old one down to that of the cut
 pub record Shortened (n : ℕ) (old new : List ℕ) : Type 0 where
   pub before : take n new ≡ take n old
   pub no_shorter : min n (length old) ≤ length new
   pub no_longer : length new ≤ length old
 
--- each new image is an old one after a step
+-- each new image is an old image after the step
 abbrev pub Follows : (List ℕ → List ℕ → Type 0) → (List ℕ → Type 0) → (List ℕ → Type 0) → Type 0
 Follows step old new = (c : List ℕ) → new c → (d : List ℕ) × old d × step d c
 
--- a crash leaves this and nothing else
+-- a crash leaves these bytes and nothing else
 abbrev pub Only : List ℕ → (List ℕ → Type 0) → Type 0
 Only bytes images = (c : List ℕ) → images c → c ≡ bytes
 
--- Time goes on: a crash since t might have left what it might have left before, or what it may leave now.
+-- Time passes: since t a crash may have left what it may have left before, or what it may leave now.
 pub record Elapses (old new : Drive) : Type 0 where
   pub later : old.clock ≤ new.clock
   pub nothing_else : (t : ℕ) (c : List ℕ) → t ≤ old.clock → new.since t c → old.since t c ⊎ new.images c
   pub keeps : (t : ℕ) (c : List ℕ) → t ≤ old.clock → old.since t c → new.since t c
 
--- A list has these more at its end. A drive may keep it no longer, and then nothing is said of what follows.
+-- The list grew by `more` at its end. If the drive no longer keeps the list, nothing is said.
 abbrev pub Grows : {T : Type 0} → List T → Option (List T) → Option (List T) → Type 0
 Grows {T = T} more old new = (all : List T) → new ≡ Some all → (before : List T) × (old ≡ Some before) × (all ≡ before ++ more)
 
--- a list has no more than before, where it's still kept
+-- the list is unchanged, if the drive still keeps it
 abbrev pub HasNoMore : {T : Type 0} → Option (List T) → Option (List T) → Type 0
 HasNoMore {T = T} old new = (all : List T) → new ≡ Some all → old ≡ Some all
 
--- the writes, cuts and syncs since answered so
+-- the writes, cuts and syncs from old to new returned these results
 abbrev pub Made : List Bool → Drive → Drive → Type 0
 Made answers old new = Grows answers old.calls new.calls
 
--- one such call was made, with this answer
+-- one such call was made, and returned this result
 abbrev pub MadeOne : {T : Type 0} → Drive → Drive → Result T DiskFault → Type 0
 MadeOne old new result = Made (is_ok result ∷ []) old new
 
--- so many such calls were made, and each was answered Ok
+-- n such calls were made, and each returned Ok
 abbrev pub MadeWell : ℕ → Drive → Drive → Type 0
 MadeWell n old new = Made (replicate n true) old new
 
--- so many such calls went well, at most so many, the next one failed, and none was made after it
+-- `went_well` such calls, at most `most`, returned Ok, the next call failed, and none was made after it
 pub record StopsAfter (most went_well : ℕ) (old new : Drive) : Type 0 where
   pub few : went_well ≤ most
   pub calls : Made (replicate went_well true ++ false ∷ []) old new
 
--- a call that leaves the bytes and the images as they were, takes no time, and is in no list of calls
+-- a call that leaves the bytes and the images unchanged, takes no time, and is in no list of calls
 pub record Stays (old new : Drive) : Type 0 where
   pub bytes : new.bytes ≡ old.bytes
   pub images : (c : List ℕ) → new.images c → old.images c
@@ -88,26 +89,26 @@ pub record Stays (old new : Drive) : Type 0 where
   pub keeps : (t : ℕ) (c : List ℕ) → old.since t c → new.since t c
   pub calls : HasNoMore old.calls new.calls
 
--- no attach was answered Ok since, so the file that was attached is still the one
+-- no attach returned Ok, so the attached file is still the same
 abbrev pub SameFile : Drive → Drive → Type 0
 SameFile old new = HasNoMore old.attaches new.attaches
 
--- one attach was, of this name, which might make the file or not
+-- exactly one attach returned Ok, with this name and this `make`
 abbrev pub AttachedOne : List ℕ → Bool → Drive → Drive → Type 0
 AttachedOne name make old new = Grows (record { name = name; make = make } ∷ []) old.attaches new.attaches
 
--- that one was, or none
+-- at most that attach returned Ok
 abbrev pub AttachedAtMost : List ℕ → Bool → Drive → Drive → Type 0
 AttachedAtMost name make old new = AttachedOne name make old new ⊎ SameFile old new
 
--- a call on the attached file: the count doesn't fall, a success leaves it, and a fault comes only where it rose
+-- a call on the attached file: the count never falls, a success leaves it, and a fault comes only if it rose
 pub record CountsFaults {T : Type 0} (old new : Drive) (result : Result T DiskFault) : Type 0 where
   pub later : old.faults ≤ new.faults
   pub same : OnOk result (new.faults ≡ old.faults)
   pub failed : OnErr result (Rose old.faults new.faults)
   pub file : SameFile old new
 
--- an attach: its file is the one from then on, or at a fault the one before; want of memory raises no count
+-- an attach: Ok changes to its file, and a fault keeps the file before; if memory ran out, the count is unchanged
 pub record CountsAttach {T : Type 0} (name : List ℕ) (make : Bool) (old new : Drive) (result : Result T AttachFault) : Type 0 where
   pub later : old.faults ≤ new.faults
   pub same : OnOk result (new.faults ≡ old.faults)
@@ -116,48 +117,50 @@ pub record CountsAttach {T : Type 0} (name : List ℕ) (make : Bool) (old new : 
   pub named : OnOk result (AttachedOne name make old new)
   pub kept : OnErr result (SameFile old new)
 
--- this place is at most the file's length, where that is known
+-- `at` is at most the file's length, if the length is known
 abbrev pub IsWithin : Drive → ℕ → Type 0
 IsWithin drive at = (xs : List ℕ) → drive.bytes ≡ Some xs → at ≤ length xs
 
--- the answer is the file's length, where that is known
+-- the result is the file's length, if the length is known
 abbrev pub TellsLength : Drive → Result ℕ DiskFault → Type 0
 TellsLength drive result = (xs : List ℕ) → drive.bytes ≡ Some xs → IfOk result (λ n. n ≡ length xs)
 
--- the bytes that lie in the file from this place on, up to the room for them, and their number
+-- a read returns the bytes from `at` on, as many as the file has and fit, and their number
 abbrev pub Reads : Drive → ℕ → List ℕ → List ℕ → Result ℕ DiskFault → Type 0
 Reads drive at before after result = IfOk result (λ n. (n ≤ length before)
     × ((xs : List ℕ) → drive.bytes ≡ Some xs → (n ≡ min (length before) (length xs - at)) × (take n after ≡ take n (drop at xs))))
 
--- a write: at Ok the bytes stand there, and a crash may tear it until a sync. At Err the bytes held are one of the images.
+-- A write: after Ok the file has the piece, and a crash may tear it until a sync. After Err the bytes are one of the
+-- images.
 pub record Writes {T : Type 0} (old new : Drive) (at : ℕ) (piece : List ℕ) (result : Result T DiskFault) : Type 0 where
   pub done : OnOk result ((xs : List ℕ) → old.bytes ≡ Some xs → (ys : List ℕ) × (new.bytes ≡ Some ys) × Holds xs at piece ys)
   pub told : is_some new.bytes ≡ is_some old.bytes
   pub crash : Follows (Torn at (length piece)) old.images new.images
   pub time : Elapses old new
 
--- a cut: at Ok the file is cut, and a crash may leave any length between until a sync. At Err the bytes held are one of the images.
+-- A cut: after Ok the file is cut, and a crash may leave a length between until a sync. After Err the bytes are an
+-- image.
 pub record Cuts {T : Type 0} (old new : Drive) (len : ℕ) (result : Result T DiskFault) : Type 0 where
   pub done : OnOk result ((xs : List ℕ) → old.bytes ≡ Some xs → new.bytes ≡ Some (take len xs))
   pub told : is_some new.bytes ≡ is_some old.bytes
   pub crash : Follows (Shortened len) old.images new.images
   pub time : Elapses old new
 
--- a sync: at Ok a crash leaves what a read gives; a failed one fixes nothing
+-- a sync: after Ok a crash leaves what a read returns; a sync that fails fixes nothing
 pub record Syncs {T : Type 0} (old new : Drive) (result : Result T DiskFault) : Type 0 where
   pub done : OnOk result ((xs : List ℕ) → old.bytes ≡ Some xs → Only xs new.images)
   pub bytes : new.bytes ≡ old.bytes
   pub crash : (c : List ℕ) → new.images c → old.images c
   pub time : Elapses old new
 
--- what holds of each drive: this moment is one of those since an earlier one, since this moment there is no other, a longer stretch
--- has the images of a shorter one, and the bytes that a read gives are an image
+-- What holds of each drive: the images since an earlier moment include those of now, and those since now are no others.
+-- A longer stretch has the images of a shorter one. The bytes that a read returns are an image.
 pub record KeepsLaws (drive : Drive) : Type 0 where
   pub counts_now : (t : ℕ) (c : List ℕ) → t ≤ drive.clock → drive.images c → drive.since t c
   pub only_now : (c : List ℕ) → drive.since drive.clock c → drive.images c
   pub longer : (s t : ℕ) (c : List ℕ) → s ≤ t → drive.since t c → drive.since s c
   pub held : (xs : List ℕ) → drive.bytes ≡ Some xs → drive.images xs
 
--- nothing is pending: where the bytes are known, a crash leaves them
+-- nothing is pending: if the bytes are known, a crash leaves exactly these
 abbrev pub IsSynced : Drive → Type 0
 IsSynced drive = (xs : List ℕ) → drive.bytes ≡ Some xs → Only xs drive.images

@@ -1,4 +1,4 @@
-//! The sessions of a day: each makes its calls with a client of its own.
+//! The sessions of a day. Each makes its calls with a client of its own.
 ghost use Rattle.store_client.specs.Caller.{Keeps};
 
 use crate::town::{is_good, op_of};
@@ -12,14 +12,14 @@ use store_client::{Client, Work};
 // How many calls a session makes.
 const ROWS: u32 = 101;
 
-/// How many of a session's answers were as they should be, and how many of these told that a position came too late.
+/// How many of a session's answers were right, and how many of these were stale.
 #[derive(Clone, Copy)]
 pub struct Told {
     pub good: u32,
     pub stale: u32,
 }
 
-/// The work of a session, and what it was told.
+/// The work of one session, and the counts of its answers.
 #[derive(Clone, Copy)]
 pub struct Caller {
     session: u8,
@@ -34,7 +34,7 @@ impl Caller {
         }
     }
 
-    // Looks at the answer to a row.
+    // Counts the answer to a row.
     fn count(&mut self, row: u32, answer: &Answer) {
         if is_good(self.session, row, answer) {
             let is_stale = matches!(answer, Answer::Stale(_));

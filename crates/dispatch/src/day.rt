@@ -1,4 +1,4 @@
-//! A day of the company.
+//! A day of the taxi company.
 ghost use Rattle.std.specs.Prelude.{◌≡◌, ◌≤◌, [], IfSome, vec_len};
 ghost use Rattle.plain_list.specs.World.{IsWorld};
 ghost use Rattle.store_client.specs.Caller.{Keeps};
@@ -17,16 +17,16 @@ use std::sync::Wait;
 use std::thread::Threads;
 use store_client::Client;
 
-/// What a day came to.
+/// The result of a day.
 #[derive(Drop)]
 pub struct Day {
     pub callers: Vec<Caller>,
     pub events: Entries,
-    /// The taxis nearest to the station in the end.
+    /// The three taxis nearest to the station at the end.
     pub nearest: PlacedList,
 }
 
-/// A day over an empty store.
+/// Plays a day on an empty store. Returns `None` if memory runs out.
 pub fn play_day<I: Index + Send, D: LogDisk + Send, R: Threads + Wait + Sync>(
     rt: &R,
     alloc: Global,
@@ -51,7 +51,7 @@ pub fn play_day<I: Index + Send, D: LogDisk + Send, R: Threads + Wait + Sync>(
     })
 }
 
-// The history that a book leaves.
+// The history of a closed book.
 fn history_of<I: Index, D: LogDisk>(book: Book<I, D>) -> Entries {
     book.into_parts().entries
 }
@@ -69,7 +69,7 @@ fn callers(alloc: Global) -> Option<Vec<Caller>>
     Vec::from_array(alloc, callers).ok()
 }
 
-// All of them at once, and then the dispatcher's last question, behind all that they did.
+// All sessions call at once. After them the dispatcher calls once more.
 fn call_all_day<I: Index + Send, D: LogDisk + Send, R: Threads + Wait + Sync>(
     rt: &R,
     alloc: Global,

@@ -1,8 +1,10 @@
-//! A taxi company over the store, and no CSV: three drivers put and move their taxis while a dispatcher asks who is nearest to the station,
-//! each in a thread of their own. In the end each driver sends an old position late, and is told that it is stale: nothing is changed.
+//! A taxi company on the store, without CSV. Three drivers put and move their taxis, while a dispatcher looks for the
+//! taxi nearest to the station. Each has a thread. At the end each driver sends an old position late, and gets the
+//! answer that it is stale. That call changes nothing.
 //!
-//! What it prints is the same however the threads run: the drivers move taxis of their own, each in a quarter of the town of their own, so
-//! what each is told, how many calls and splits there are, and who is nearest in the end don't depend on who comes first.
+//! The program prints the same lines however the threads run. Each driver moves taxis of its own in a quarter of its
+//! own. So the answers, the number of calls and splits, and the nearest taxis at the end don't depend on the order of
+//! the threads.
 #![tactic(auto)]
 
 mod callers;
@@ -18,7 +20,7 @@ use std::io;
 use std::io::Print;
 use zorder::Placed;
 
-// How many taxis a leaf should have.
+// The bucket size in taxis.
 const BUCKET: u32 = 4;
 
 fn tell(rt: &impl Print, day: &Day) -> io::Result<()> {

@@ -1,10 +1,10 @@
-//! Who asks what, and what they should be told.
+//! The calls of each session, and their right answers.
 ghost use Rattle.plain_list.specs.Answer.{IsValid};
 
 use plain_list::{Answer, Op, Stamped};
 use zorder::Point;
 
-/// The dispatcher's session. Those before it are drivers.
+/// The dispatcher's session. The sessions with lesser numbers are drivers.
 pub const DISPATCHER: u8 = 4;
 
 /// Where the dispatcher looks for taxis.
@@ -13,10 +13,10 @@ pub const STATION: Point = Point {
     y: 2_200_000_000,
 };
 
-/// The taxi that waits there.
+/// The id of the taxi that waits at the station.
 pub const WAITING: u64 = 40;
 
-// Where each driver's quarter begins.
+// The coordinates at which the drivers' quarters begin.
 const LOW: u32 = 1_000_000_000;
 
 const HIGH: u32 = 3_300_000_000;
@@ -24,10 +24,10 @@ const HIGH: u32 = 3_300_000_000;
 // How many taxis a driver has.
 const TAXIS: u32 = 4;
 
-// The round in which a driver sends no new position, but an old one again.
+// The round in which a driver sends an old position again in place of a new one.
 const LATE: u32 = 25;
 
-// The round of that old position: it was sent from a tunnel, and comes when the taxi is out of it.
+// The round of that old position. It was sent from a tunnel, and arrives after the taxi has left it.
 const TUNNEL: u32 = 12;
 
 // The corner of a driver's quarter.
@@ -39,7 +39,7 @@ fn corner(session: u8) -> Point {
     }
 }
 
-// Where a driver's taxi is after so many rounds. The moment of a position is its round.
+// Where a driver's taxi is in this round. The moment of a position is its round.
 fn place(session: u8, taxi: u32, round: u32) -> Stamped {
     let corner = corner(session);
     Stamped {
@@ -51,8 +51,8 @@ fn place(session: u8, taxi: u32, round: u32) -> Stamped {
     }
 }
 
-/// What a session's row asks: a driver puts each taxi, moves each in turn, and at last sends an old position of the first one. The
-/// dispatcher asks who is nearest to the station.
+/// The operation of a session's row. A driver puts each taxi, then moves each in turn, and at last sends an old
+/// position of the first one again. The dispatcher asks for the taxi nearest to the station.
 pub fn op_of(session: u8, row: u32) -> Op
     ensures { IsValid result }
 {
@@ -70,8 +70,8 @@ pub fn op_of(session: u8, row: u32) -> Op
     }
 }
 
-/// Whether an answer to a row is the one that it should be, whatever the others do. A position that comes late is stale: the taxi stays
-/// where it was last, and its driver is told where that is.
+/// Whether the answer to a row is the right one, whatever the other sessions do. A late position is stale. Then the
+/// taxi stays at its last position, and the answer has that position.
 pub fn is_good(session: u8, row: u32, answer: &Answer) -> bool {
     let (taxi, round) = (row % TAXIS, row / TAXIS);
     match answer {

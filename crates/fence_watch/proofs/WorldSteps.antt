@@ -3,11 +3,13 @@ use Rattle.std.proofs.Common.{◌≡◌, ℕ, Bool, true, false, List, [], ◌�
 use Rattle.std.specs.Prelude.{nat_lt}
 use Rattle.std.specs.Option.{option_map, option_map_or}
 use Rattle.std.proofs.lemmas.Bool.{eq-eqb}
+use Rattle.std.proofs.lemmas.Option.{same_Some}
 use Rattle.zorder.specs.declared.points.Point.{Point}
 use Rattle.cell_format.specs.declared.cell.Cell.{Cell}
 use Rattle.cell_format.specs.declared.cell.Cell.TheVariants as cell
 use Rattle.plain_list.specs.declared.world.Member.{Member}
 use Rattle.plain_list.specs.declared.world.Stamped.{Stamped}
+use Rattle.plain_list.specs.declared.object_changes.Change.{Change}
 use Rattle.plain_list.specs.declared.ops.Op.{Op}
 use Rattle.plain_list.specs.declared.ops.Op.TheVariants as op
 use Rattle.plain_list.specs.declared.ops.Answer.TheVariants.{Done, Present, Full, Moved, Stale, Gone, Absent}
@@ -34,32 +36,35 @@ at_of o = option_map (λ (s : Stamped). s.at) o
 put-at : (m : Member) (world : World) (id : ℕ) (before after : Option Point) (o : Option Stamped) → position_of world m.id ≡ o → (full : Bool)
     → IsStepOf id before after (op.Put m.id m.at m.moment) (option_map_or Present o (cond full Full Done))
     → AreAt world (cond (is_change (option_map_or Present o (cond full Full Done))) (with_member m world) world) m.id id before after
-put-at m world id before after (Some p) e full step = absurd step
-put-at m world id before after None e true step = absurd step
+put-at m world id before after (Some p) e full step = absurd (cc step.1)
+put-at m world id before after None e true step = absurd (cc step.1)
 put-at m world id before after None e false step =
     let there : position_of (with_member m world) m.id ≡ Some (stamped_of m) =
     position_of-with_member m world m.id e ∙ ap (λ b. cond b (Some (stamped_of m)) (position_of world m.id)) (eq-eqb m.id m.id refl) in
-    record { same = step.0; before_is = step.1 ∙ ap at_of (sym e); after_is = step.2 ∙ ap at_of (sym there) }
+    let same = same_Some _ _ step.1 in
+    record { same = ap (λ (c : Change). c.id) same; before_is = sym (ap (λ (c : Change). c.before) same) ∙ ap at_of (sym e); after_is = sym (ap (λ (c : Change). c.after) same) ∙ ap at_of (sym there) }
 
 move-at : (object : ℕ) (to : Stamped) (world : World) (id : ℕ) (before after : Option Point) (o : Option Stamped) → position_of world object ≡ o
     → IsStepOf id before after (op.Move object to.at to.moment) (option_map_or (moved_or_stale to.moment) o Absent)
     → AreAt world (cond (is_change (option_map_or (moved_or_stale to.moment) o Absent)) (with_moved object to world) world) object id before after
-move-at object to world id before after None e step = absurd step
+move-at object to world id before after None e step = absurd (cc step.1)
 move-at object to world id before after (Some p) e step = by_moment (nat_lt to.moment p.moment) step
   where
     by_moment : (late : Bool) → IsStepOf id before after (op.Move object to.at to.moment) (cond late (Stale p) (Moved p))
         → AreAt world (cond (is_change (cond late (Stale p) (Moved p))) (with_moved object to world) world) object id before after
-    by_moment true late = absurd late
+    by_moment true late = absurd (cc late.1)
     by_moment false step =
-        record { same = step.0; before_is = step.1 ∙ ap at_of (sym e); after_is = step.2 ∙ ap at_of (sym (moved-there object to p world e)) }
+        let same = same_Some _ _ step.1 in
+        record { same = ap (λ (c : Change). c.id) same; before_is = sym (ap (λ (c : Change). c.before) same) ∙ ap at_of (sym e); after_is = sym (ap (λ (c : Change). c.after) same) ∙ ap at_of (sym (moved-there object to p world e)) }
 
 drop-at : (object : ℕ) (world : World) (id : ℕ) (before after : Option Point) (o : Option Stamped) → position_of world object ≡ o
     → IsStepOf id before after (op.Remove object) (option_map_or Gone o Absent)
     → AreAt world (cond (is_change (option_map_or Gone o Absent)) (without object world) world) object id before after
-drop-at object world id before after None e step = absurd step
+drop-at object world id before after None e step = absurd (cc step.1)
 drop-at object world id before after (Some p) e step =
     let none : position_of (without object world) object ≡ None = position_of-without object world object ∙ ap (λ b. cond b None (position_of world object)) (eq-eqb object object refl) in
-    record { same = step.0; before_is = step.1 ∙ ap at_of (sym e); after_is = step.2 ∙ ap at_of (sym none) }
+    let same = same_Some _ _ step.1 in
+    record { same = ap (λ (c : Change). c.id) same; before_is = sym (ap (λ (c : Change). c.before) same) ∙ ap at_of (sym e); after_is = sym (ap (λ (c : Change). c.after) same) ∙ ap at_of (sym none) }
 
 -- the same of a cell that stands for the operation
 goes-on : (world : World) (c : Cell) (object : ℕ) (fences : List Fence) (at id : ℕ) (before after : Option Point) (old new : TallyView) → object_of c ≡ Some object → FollowsWorld world fences old
@@ -120,9 +125,9 @@ stands-for world (op.Remove object) id before after step = (
     are = drop-at object world id before after (position_of world object) refl step;
   },
 )
-stands-for world (op.Find object) id before after step = absurd step
-stands-for world (op.Within region) id before after step = absurd step
-stands-for world (op.Near point k) id before after step = absurd step
+stands-for world (op.Find object) id before after step = absurd (cc step.1)
+stands-for world (op.Within region) id before after step = absurd (cc step.1)
+stands-for world (op.Near point k) id before after step = absurd (cc step.1)
 
 pub follows-on : (world : World) (o : Op) (fences : List Fence) (at id : ℕ) (before after : Option Point) (old new : TallyView) → FollowsWorld world fences old
     → IsStepOf id before after o (answer_of world o) → TalliesBy at (Some id) before after old new → FollowsWorld (after_of world o) fences new

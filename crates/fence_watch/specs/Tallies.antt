@@ -3,9 +3,8 @@ use Rattle.std.specs.Prelude.{◌≡◌, ◌+◌, ◌-◌, ◌<◌, ◌≤◌, �
 use Rattle.zorder.specs.declared.points.Point.{Point}
 use Rattle.cell_format.specs.declared.cell.Cell.{Cell}
 use Rattle.plain_list.specs.declared.ops.Op.{Op}
-use Rattle.plain_list.specs.declared.ops.Op.TheVariants as op
 use Rattle.plain_list.specs.declared.ops.Answer.{Answer}
-use Rattle.plain_list.specs.declared.ops.Answer.TheVariants.{Done, Moved, Gone}
+use Rattle.plain_list.specs.Changes.{change_of}
 use Rattle.plain_list.specs.Places.{IsRising}
 use Rattle.plain_list.specs.World.{World, places_of, most_members}
 use Rattle.fence_watch.specs.declared.fences.Fence.{Fence}
@@ -83,10 +82,6 @@ pub record FollowsWorld (world : World) (fences : List Fence) (v : TallyView) : 
   pub few : length world ≤ most_members
   pub counts : v.counts ≡ map (count_in world) fences
 
--- An operation with this answer changed this object, and its places before and after are these: put where it wasn't, moved from where it
--- was kept, or dropped there.
+-- an operation with this answer changed this object, and its places before and after are these
 abbrev pub IsStepOf : ℕ → Option Point → Option Point → Op → Answer → Type 0
-IsStepOf id before after (op.Put object at moment) Done = (object ≡ id) × (before ≡ None) × (after ≡ Some at)
-IsStepOf id before after (op.Move object at moment) (Moved kept) = (object ≡ id) × (before ≡ Some kept.at) × (after ≡ Some at)
-IsStepOf id before after (op.Remove object) (Gone kept) = (object ≡ id) × (before ≡ Some kept.at) × (after ≡ None)
-IsStepOf id before after _ _ = ⊥
+IsStepOf id before after op answer = (place : ℕ) × (change_of place op answer ≡ Some (record { place = place; id = id; before = before; after = after }))

@@ -1,4 +1,4 @@
-//! The least program over a store in memory: two taxis, and which of them is nearest.
+//! The smallest program that uses a store in memory: it puts two taxis and prints the nearest one.
 #![tactic(auto)]
 
 use commit_book::Book;

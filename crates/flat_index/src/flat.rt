@@ -1,4 +1,4 @@
-//! All leaves, in one list.
+//! The index: all leaves in one list.
 ghost use Rattle.std.specs.Prelude.{◌≡◌, ◌≤◌, ◌+◌, length, map, true, IfOk};
 ghost use Rattle.std.specs.Arc.{arc_value};
 ghost use Rattle.bucket_versions.specs.Rows.{IsRows};
@@ -15,7 +15,7 @@ use std::alloc::{AllocError, Global};
 use std::sync::Arc;
 use zorder::{Memory, Name, child};
 
-/// A list of leaves, in the order of their keys.
+/// An index as a list of leaves, in the order of their keys.
 #[derive(Drop)]
 pub struct FlatIndex {
     alloc: Global,
@@ -98,7 +98,7 @@ impl Index for FlatIndex {
     }
 }
 
-// The leaves with another bucket at a place.
+// Copies the leaves, with another leaf at `place`.
 fn with_leaf(
     alloc: Global,
     leaves: &[FlatLeaf],
@@ -118,7 +118,7 @@ fn with_leaf(
     Ok(all)
 }
 
-// The leaves with the two children of one in its place.
+// Copies the leaves, with the leaf at `place` replaced by its two children.
 fn with_children(
     alloc: Global,
     leaves: &[FlatLeaf],

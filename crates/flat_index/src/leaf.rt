@@ -1,4 +1,4 @@
-//! One leaf, and lists of leaves that share their buckets.
+//! Leaves, and lists of leaves that share their buckets.
 ghost use Rattle.std.specs.Prelude.{◌≡◌, ◌++◌, ◌+◌, ◌<◌, ◌≤◌, length, take, OnOk, IfOk};
 ghost use Rattle.std.specs.Arc.{arc_value};
 ghost use Rattle.bucket_versions.specs.Rows.{AreRows};
@@ -21,7 +21,7 @@ impl FlatLeaf {
         ensures leaf { seen_leaf result ≡ record { name = name; bucket = arc_value bucket } }
         ensures in_order { AreRows (arc_value bucket) }
     {
-        // To ask for the count tells that the rows are in order.
+        // The contract of `count` says that the rows are in order.
         let _rows = bucket.count();
         FlatLeaf { name, bucket }
     }
@@ -37,7 +37,7 @@ impl FlatLeaf {
     }
 }
 
-/// Adds leaves that share their buckets with these.
+/// Appends leaves that share their buckets with the given ones.
 pub(crate) fn push_shared(into: &mut Vec<FlatLeaf>, leaves: &[FlatLeaf]) -> Result<(), AllocError>
     ensures { OnOk result (seen into.new.items ≡ seen into.old.items ++ seen leaves.now) }
 {
@@ -47,7 +47,7 @@ pub(crate) fn push_shared(into: &mut Vec<FlatLeaf>, leaves: &[FlatLeaf]) -> Resu
     Ok(())
 }
 
-/// The first leaves, with room for some more than there are.
+/// Copies the first `count` leaves into a list with room for all leaves and `more` besides.
 pub(crate) fn front_of(
     alloc: Global,
     leaves: &[FlatLeaf],

@@ -1,7 +1,7 @@
-//! An index as one list of leaves, in the order of their keys.
+//! An index as one list of leaves, in the order of their keys. It is the plain implementation, for tests.
 //!
-//! Contracts see the leaves, as of every `Index`. A leaf is found by binary search over the leaves' first keys. A new
-//! index copies the list once and shares the buckets.
+//! Contracts see the leaves, as for every `Index`. A leaf is found by binary search over the first keys of the leaves.
+//! Each new index copies the list and shares the buckets.
 //!
 //! Not here: an index whose versions share their leaves (`kd_trie`).
 #![tactic(auto)]

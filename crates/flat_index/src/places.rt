@@ -1,4 +1,4 @@
-//! Where a leaf stands in the list, found by binary search over the first keys.
+//! Binary search for a leaf by the first keys of the leaves.
 ghost use Rattle.std.specs.Prelude.{◌≡◌, ◌<◌, Some, length, true, false, slice_index_or, MatchOption, IfSome};
 ghost use Rattle.index_layer.specs.Leaves.{Leaf, AreLeaves, has_name, leaf_under};
 ghost use Rattle.flat_index.specs.Seen.{seen};
@@ -6,7 +6,7 @@ ghost use Rattle.flat_index.specs.Seen.{seen};
 use crate::leaf::FlatLeaf;
 use zorder::Name;
 
-/// The place of the leaf that a key is under.
+/// Returns the index of the leaf that a key is under.
 pub(crate) fn place_of(leaves: &[FlatLeaf], key: u64) -> usize
     requires { AreLeaves (seen leaves.now) }
     ensures within { result < length leaves.now }
@@ -16,7 +16,7 @@ pub(crate) fn place_of(leaves: &[FlatLeaf], key: u64) -> usize
     end - 1
 }
 
-/// The place of the leaf of a name.
+/// Returns the index of the leaf with this name.
 pub(crate) fn place_named(leaves: &[FlatLeaf], name: &Name) -> Option<usize>
     requires { AreLeaves (seen leaves.now) }
     ensures within { MatchOption result (has_name name.now (seen leaves.now) ≡ false) (λ i. i < length leaves.now) }

@@ -1,4 +1,4 @@
-//! A list of leaves may be sent to another thread, and shared by threads.
+//! Checks at compile time that the index can be sent to other threads and shared by them.
 use crate::flat::FlatIndex;
 
 fn in_threads<T: Send + Sync>() {}

@@ -16,7 +16,8 @@ use Rattle.recovery.specs.Reading.{OnlyReads}
 use Rattle.recovery.specs.Walks.{WalkView, ComesTo, TellsWalked, IsOfHead}
 use Rattle.recovery.specs.Wanted.{MayTellLog}
 use Rattle.recovery.specs.declared.walked.Walked.{Walked}
-use Rattle.recovery.specs.Widths.{IsWidth, IsWidthOf, HasWidth, IsLogFault}
+use Rattle.zorder.specs.Width.{IsWidth}
+use Rattle.recovery.specs.Widths.{IsWidthOf, HasWidth, IsLogFault}
 use Rattle.recovery.proofs.Exclusive.{one_fault, recovers_no_fault, recovers_wanted, one_recovery}
 use Rattle.recovery.proofs.OnlyReading.{stays-trans, rose-earlier}
 use Rattle.recovery.proofs.WidthLemmas.{recovers_width, same_width, fault_seen, fault_at}

@@ -5,7 +5,8 @@ use Rattle.disk_trait.specs.Drive.{Drive, Stays}
 use Rattle.cell_format.specs.declared.cell.Cell.{Cell}
 use Rattle.log_state.specs.Recovers.{Recovers}
 use Rattle.recovery.specs.Faults.{IsInBytes}
-use Rattle.recovery.specs.Widths.{IsWidth, IsLogFault}
+use Rattle.zorder.specs.Width.{IsWidth}
+use Rattle.recovery.specs.Widths.{IsLogFault}
 use Rattle.recovery.specs.declared.seen.OpenFault.{OpenFault}
 use Rattle.follower.specs.Holding.{AreLeading, most_followed}
 use Rattle.run_ends.specs.declared.refusals.Refusal.{Refusal}

@@ -1,5 +1,6 @@
 -- A log that holds the first of the leader's cells.
 use Rattle.std.specs.Prelude.{◌≡◌, ◌⊎◌, ℕ, ◌≤◌, List, length, take, Some}
+use Rattle.zorder.specs.Width.{IsWidth}
 use Rattle.cell_format.specs.declared.cell.Cell.{Cell}
 use Rattle.disk_trait.specs.Drive.{Drive}
 use Rattle.disk_trait.specs.Moments.{LeavesOnly}
@@ -32,7 +33,7 @@ pub record RecoversFirst (w : ℕ) (cells : List Cell) (least most : ℕ) (image
 
 -- a leader's cells: legal, and not too many
 pub record AreLeading (w : ℕ) (cells : List Cell) : Type 0 where
-  pub known : (w ≡ 1) ⊎ (w ≡ 2)
+  pub known : IsWidth w
   pub legal : IsLegalCells w cells
   pub few : length cells ≤ most_followed
 

@@ -1,5 +1,6 @@
 //! Walks over a log, and compares its cells with the leader's.
 ghost use Rattle.std.specs.Prelude.{◌≡◌, ◌⊎◌, ◌+◌, ◌<◌, ◌↔◌, ◌++◌, ◌∷◌, [], ℕ, List, Some, IsTrue, length, slice_index_or, IfOk, IfErr};
+ghost use Rattle.zorder.specs.Width.{IsWidth};
 ghost use Rattle.cell_format.specs.declared.cell.Cell.{Cell};
 ghost use Rattle.recovery.specs.Found.{IsWanted};
 ghost use Rattle.recovery.specs.Reading.{OnlyReads};
@@ -31,7 +32,7 @@ pub(crate) fn compare<D: LogDisk>(
     cells: &[Cell],
     width: u8,
 ) -> Result<Compared<D>, OpenRefused<D>>
-    requires width { (width ≡ 1) ⊎ (width ≡ 2) }
+    requires width { IsWidth width }
     requires long { (bytes : List ℕ) → (D.drive disk).bytes ≡ Some bytes → 17 < length bytes }
 
     ensures compared { IfOk result (λ c. Compares width cells.now (D.drive disk) (D.drive c.disk) c.count c.same) }

@@ -1,5 +1,6 @@
 //! Opens a log of which it's known how many cells it has.
 ghost use Rattle.std.specs.Prelude.{◌≡◌, ◌⊎◌, IfOk, IfErr};
+ghost use Rattle.zorder.specs.Width.{IsWidth};
 ghost use Rattle.follower.specs.Reopening.{Reopens, RefusesReopen};
 
 use crate::faults::{FollowFault, FollowRefused};
@@ -15,7 +16,7 @@ pub(crate) fn reopen<D: LogDisk>(
     width: u8,
     count: u64,
 ) -> Result<SplitLog<D>, FollowRefused<D>>
-    requires { (width ≡ 1) ⊎ (width ≡ 2) }
+    requires { IsWidth width }
 
     ensures opened { IfOk result (Reopens D.drive width count (D.drive disk)) }
     ensures refused { IfErr result (λ e. RefusesReopen width count (D.drive disk) (D.drive e.disk) e.fault) }

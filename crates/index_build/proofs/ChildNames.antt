@@ -2,6 +2,7 @@
 use Rattle.std.proofs.Common.{◌≡◌, ◌⊎◌, inl, inr, ℕ, zero, suc, ◌+◌, ◌-◌, ◌*◌, ◌%◌, ◌^◌, ◌<◌, ◌≤◌, Bool, true, false, List, [], ◌∷◌, ◌++◌, length, map, drop, Some, slice_get, refl, sym, ap, subst, ◌∙◌, arith, append_assoc, length-append}
 use Rattle.std.specs.List.{AllByRecursion}
 use Rattle.std.proofs.lemmas.Nat.{pow_pos}
+use Rattle.zorder.specs.Width.{IsWidth}
 use Rattle.zorder.specs.Name.{first_key}
 use Rattle.zorder.specs.Tile.{bit_lists, children}
 use Rattle.zorder.proofs.Tiles.{first_left, first_right}
@@ -30,11 +31,11 @@ bit_lists-long (suc w) =
     (longer_lists false w (bit_lists w) (bit_lists-long w)) (longer_lists true w (bit_lists w) (bit_lists-long w))
 
 -- how many children there are, as a shift gives it
-pub shifted : (v w : ℕ) → v ≡ w → (w ≡ 1) ⊎ (w ≡ 2) → (1 * 2 ^ v) % 18446744073709551616 ≡ 2 ^ w
+pub shifted : (v w : ℕ) → v ≡ w → IsWidth w → (1 * 2 ^ v) % 18446744073709551616 ≡ 2 ^ w
 shifted v w same (inl e) = (λ i. (1 * 2 ^ (same ∙ e) i) % 18446744073709551616) ∙ (λ i. 2 ^ sym e i)
 shifted v w same (inr e) = (λ i. (1 * 2 ^ (same ∙ e) i) % 18446744073709551616) ∙ (λ i. 2 ^ sym e i)
 
-pub width-positive : (w : ℕ) → (w ≡ 1) ⊎ (w ≡ 2) → 0 < w
+pub width-positive : (w : ℕ) → IsWidth w → 0 < w
 width-positive w (inl e) = omega (arith, e)
 width-positive w (inr e) = omega (arith, e)
 
@@ -99,7 +100,7 @@ two_wide name (suc (suc zero)) child room at =
 two_wide name (suc (suc (suc i))) child room at = absurd (cc at)
 
 -- each child but the first begins behind the name's first key
-pub child-above : (w : ℕ) (name : List Bool) (i : ℕ) (child : List Bool) → (w ≡ 1) ⊎ (w ≡ 2) → length name + w ≤ 64 → slice_get (children w name) (suc i) ≡ Some child → first_key name < first_key child
+pub child-above : (w : ℕ) (name : List Bool) (i : ℕ) (child : List Bool) → IsWidth w → length name + w ≤ 64 → slice_get (children w name) (suc i) ≡ Some child → first_key name < first_key child
 child-above w name i child (inl e) room at =
     one_wide name i child (omega (arith, e, room)) (ap (λ v. slice_get (children v name) (suc i)) (sym e) ∙ at)
 child-above w name i child (inr e) room at =

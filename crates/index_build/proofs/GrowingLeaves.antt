@@ -3,6 +3,7 @@ use Rattle.std.proofs.Common.{◌≡◌, ◌⊎◌, ℕ, suc, ◌+◌, ◌%◌, 
 use Rattle.std.specs.Prelude.{◌&&◌, nat_le}
 use Rattle.std.specs.List.{AllByRecursion}
 use Rattle.std.proofs.lemmas.List.{map-append}
+use Rattle.zorder.specs.Width.{IsWidth}
 use Rattle.zorder.specs.declared.points.Placed.{Placed}
 use Rattle.zorder.specs.Key.{is_under}
 use Rattle.zorder.specs.Name.{first_key}
@@ -70,7 +71,7 @@ pub record IsGrowing (w : ℕ) (rows : List Row) (wanted : List (List Bool)) (na
 
 -- what is asked of a leaf that is to be grown, and what holds of each index
 pub record IsAsked (w : ℕ) (rows : List Row) (wanted : List (List Bool)) (first : ℕ) (name : List Bool) (old : List Leaf) : Type 0 where
-  pub width : (w ≡ 1) ⊎ (w ≡ 2)
+  pub width : IsWidth w
   pub are_leaves : AreLeaves old
   pub grown : IsGrown w wanted
   pub splits : length name % w ≡ 0

@@ -6,6 +6,7 @@ use Rattle.std.specs.Cmp.{first_so, second_so}
 use Rattle.std.proofs.lemmas.Bool.{leb-true, leb-false, eqb-true}
 use Rattle.std.proofs.lemmas.List.{take-append-drop}
 use Rattle.std.proofs.Math.Nat.{add-mod_right}
+use Rattle.zorder.specs.Width.{IsWidth}
 use mathlib.Core.Bool.{true≢false}
 use Rattle.zorder.specs.Key.{is_under}
 use Rattle.zorder.specs.Name.{first_key}
@@ -113,7 +114,7 @@ longer-there name next le short first other = by_test (leb (length next) (length
         absurd (true≢false (sym ((same_name-decides next name).1 same) ∙ other))
 
 -- of two names with the bits of some number of splits the longer one is longer by a split
-pub by_a_split : (w a b : ℕ) → (w ≡ 1) ⊎ (w ≡ 2) → a % w ≡ 0 → b % w ≡ 0 → a < b → a + w ≤ b
+pub by_a_split : (w a b : ℕ) → IsWidth w → a % w ≡ 0 → b % w ≡ 0 → a < b → a + w ≤ b
 by_a_split w a b (inl e) ha hb lt = omega (arith, e, lt)
 by_a_split w a b (inr e) ha hb lt =
     let ea : a % 2 ≡ 0 = ap (λ v. a % v) (sym e) ∙ ha in
@@ -124,7 +125,7 @@ pub one_split_more : (w a : ℕ) → a % w ≡ 0 → (a + w) % w ≡ 0
 one_split_more w a h = add-mod_right a w ∙ h
 
 -- the next wanted name, where it is longer than this one, is longer by a split
-pub next-longer : (w : ℕ) (wanted : List (List Bool)) (done : ℕ) (name there : List Bool) → (w ≡ 1) ⊎ (w ≡ 2) → IsGrown w wanted → length name % w ≡ 0 → (n : IsNext wanted done there)
+pub next-longer : (w : ℕ) (wanted : List (List Bool)) (done : ℕ) (name there : List Bool) → IsWidth w → IsGrown w wanted → length name % w ≡ 0 → (n : IsNext wanted done there)
     → length name < length n.next → length name + w ≤ length n.next
 next-longer w wanted done name there width grown splits n lt =
     by_a_split w (length name) (length n.next) width splits

@@ -1,4 +1,4 @@
-//! An index over a world.
+//! Building an index over a world.
 ghost use Rattle.std.specs.Prelude.{IfOk};
 ghost use Rattle.std.specs.List.{AllByRecursion};
 ghost use Rattle.plain_list.specs.World.{places_of};
@@ -14,7 +14,8 @@ use split_prepare::cut_out;
 use std::alloc::Global;
 use zorder::{Memory, Name};
 
-/// An index over the objects of the world, whose leaves have these names, in key order.
+/// Builds an index over the objects of the world. Its leaves have these names, in key order, and each bucket is its own
+/// base.
 pub fn build<I: Index>(alloc: Global, world: &World, leaves: &[Name]) -> Result<I, Memory>
     requires { IsGrown I.WIDTH leaves.now }
     ensures stands { IfOk result (λ index. Stands (I.leaves index) (places_of world.now) leaves.now) }

@@ -1,4 +1,4 @@
-//! An index whose leaves are split on until they are those that are wanted.
+//! An index whose leaves are split until they are the wanted ones.
 ghost use Rattle.std.specs.Prelude.{◌≡◌, ◌≤◌, ◌+◌, ◌%◌, Bool, List, length, true, slice_index_or, IfOk, OnOk};
 ghost use Rattle.index_layer.specs.Leaves.{has_name, split};
 ghost use Rattle.split_prepare.specs.Cut.{cut};
@@ -11,15 +11,15 @@ use split_prepare::{child_at, cut};
 use std::alloc::Global;
 use zorder::{Memory, Name};
 
-/// An index that is being made, and how many of the wanted leaves it has, from the first on.
+/// An index under construction, and how many of the wanted leaves it has, counted from the first.
 #[derive(Drop)]
 pub(crate) struct Growing<I: Index> {
     pub(crate) index: I,
     pub(crate) done: usize,
 }
 
-/// Splits the leaf of this name, which stands behind those that are done, until the leaves there are the wanted ones. Each gets
-/// the rows under its name out of a bucket of all rows.
+/// Splits the leaf of this name, which comes after the leaves that are done, until the leaves in its place are the
+/// wanted ones. Each new leaf gets the rows under its name from `whole`, a bucket of all rows.
 pub(crate) fn grow<I: Index>(
     alloc: Global,
     growing: Growing<I>,
@@ -54,7 +54,7 @@ pub(crate) fn grow<I: Index>(
     Ok(growing)
 }
 
-/// Splits a leaf at once. Its children get the rows under their names out of a bucket of all rows.
+/// Splits a leaf. Its children get the rows under their names from `whole`, a bucket of all rows.
 pub fn split<I: Index>(
     alloc: Global,
     index: &mut I,

@@ -11,7 +11,7 @@ use plain_list::{Member, World};
 use std::alloc::{AllocError, Global};
 use zorder::key;
 
-/// A row for each object, in order.
+/// Returns a row for each object, in order of key and id.
 pub(crate) fn rows_of(alloc: Global, world: &World) -> Result<Vec<Row>, AllocError>
     ensures in_order { IfOk result (λ rows. IsRows rows.items) }
     ensures has { IfOk result (λ rows. (r : Row) → has_row r rows.items ≡ places_have (places_of world.now) r) }

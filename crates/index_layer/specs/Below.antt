@@ -12,7 +12,7 @@ use Rattle.index_layer.specs.declared.index.Below.TheVariants as below
 abbrev pub begins_some : List Bool → List Leaf → Bool
 begins_some name leaves = list_any (λ l. starts_with beq l.name name) leaves
 
--- the leaf of this name; or no leaf has it, some leaf's name goes on from it, and there are places of both halves
+-- the leaf of this name; or, if no leaf has the name but some leaf's name begins with it, the places of both halves
 abbrev pub IsBelow : {P : Type 0} → List Leaf → (P → List Bool → Type 0) → List Bool → Below P → Type 0
 IsBelow leaves is_at name (below.Leaf bucket) = leaf_named name leaves ≡ Some (record { name = name; bucket = arc_value bucket.now })
 IsBelow leaves is_at name (below.Halves zero one) =

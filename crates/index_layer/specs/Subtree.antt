@@ -5,7 +5,7 @@ use mathlib.Core.Bool.{beq}
 use Rattle.zorder.specs.Name.{first_key}
 use Rattle.index_layer.specs.Leaves.{Leaf}
 
--- the leaves whose names begin with this one
+-- the leaves whose names begin with this name
 abbrev pub subtree : List Bool → List Leaf → List Leaf
 subtree name leaves = filter (λ (l : Leaf). starts_with beq l.name name) leaves
 

@@ -1,6 +1,7 @@
-//! What each index is: leaves in the order of their keys, a bucket for each.
+//! The trait of indexes: leaves in the order of their keys, with a bucket of rows for each.
 ghost use Rattle.std.specs.Prelude.{◌≡◌, ◌⊎◌, ◌^◌, ◌+◌, ◌-◌, ◌≤◌, ◌↔◌, min, ℕ, Bool, List, [], length, map, false, true, Ok, IfOk, OnOk, OnErr, IfErr, IsErrOf};
 ghost use Rattle.std.specs.Arc.{arc_value};
+ghost use Rattle.zorder.specs.Width.{IsWidth};
 ghost use Rattle.bucket_versions.specs.Told.{Told};
 ghost use Rattle.index_layer.specs.Leaves.{Leaf, AreLeaves, all_rows, one_leaf, has_name, leaf_under, replaced, split, AreUnder, AreAllUnder};
 ghost use Rattle.index_layer.specs.Part.{IsPart};
@@ -21,33 +22,33 @@ use zorder::{Memory, Name};
 /// What an index has at a name.
 #[derive(Clone, Copy)]
 pub enum Part<'a> {
-    /// Leaves whose names begin with it and go on.
+    /// Leaves whose names are longer and begin with this name.
     Inner,
-    /// A leaf of this name.
+    /// A leaf with this name.
     Leaf(&'a Arc<Bucket>),
-    /// Neither.
+    /// Neither; the name is below a leaf.
     Outside,
 }
 
 /// What is below a place in an index.
 pub enum Below<'a, P> {
-    /// A leaf of the place's name.
+    /// A leaf with the place's name.
     Leaf(&'a Arc<Bucket>),
-    /// Leaves whose names begin with the place's and go on.
+    /// Leaves whose names are longer and begin with the place's name.
     Halves {
-        /// The place of those that go on with 0.
+        /// The place of those leaves whose next bit is 0.
         zero: &'a P,
-        /// The place of those that go on with 1.
+        /// The place of those leaves whose next bit is 1.
         one: &'a P,
     },
 }
 
-/// Why an index was not changed.
+/// Why a call returned no index.
 #[derive(Clone, Copy, Debug)]
 pub enum IndexFault {
     /// No leaf has the name.
     NoLeaf {
-        /// The name that was asked for.
+        /// The caller's name.
         name: Name,
     },
     /// Memory ran out.
@@ -74,46 +75,46 @@ impl From<AllocError> for IndexFault {
     }
 }
 
-// What fails for want of memory alone, since what it asks for is known to be there.
+// Maps each error to `Memory`. The caller knows that its leaf exists, so only memory can be missing.
 fn or_memory<T, E: Drop>(made: Result<T, E>) -> Result<T, Memory>
     ensures { IfOk result (λ x. made ≡ Ok x) }
 {
     made.map_err(|_| Memory)
 }
 
-/// Leaves whose names tile the key space, each with a bucket of rows under its name.
+/// Leaves whose names tile the key space, each with a bucket of the rows under its name.
 ///
-/// Indexes share what they have in common, and a call on one changes no other. The calls that wait for a step change the index
-/// itself, in place where a form can do better than make a new one; on an `Err` its leaves are as before.
+/// Indexes share what they have in common, but a call on one changes no other. A call that waits for a step (`Commit`)
+/// changes the index itself, in place if the implementation can. If it returns `Err`, the leaves are unchanged.
 pub trait Index: Sized + Drop {
     /// The leaves, in the order of their keys.
     ghost leaves: { Self → List Leaf };
 
-    /// Where a walk over the index stands.
+    /// A position of a walk over the index, such as a node of a trie.
     type Place;
 
-    /// A place has a name, and some leaf's name begins with it.
+    /// A place has a name, with which some leaf's name begins.
     ghost is_at: { Self → Self.Place → List Bool → Type 0 };
 
-    /// How many bits more a leaf's children have.
+    /// How many more bits a leaf's children have: 1 for two children, 2 for four.
     ghost WIDTH: { ℕ };
 
-    /// How many bits more a leaf's children have.
+    /// How many more bits a leaf's children have: 1 for two children, 2 for four.
     const WIDTH: u8;
 
-    /// One leaf for the whole key space.
+    /// Creates an index with one leaf, for the whole key space.
     fn whole(alloc: Global, bucket: Arc<Bucket>) -> Result<Self, Memory>
         ensures { IfOk result (λ index. leaves index ≡ one_leaf (arc_value bucket)) };
 
-    /// An equal index, whose buckets are shared with this one.
+    /// Returns an equal index that shares its buckets with this one.
     fn share(&self) -> Result<Self, Memory>
         ensures { IfOk result (λ index. leaves index ≡ leaves self.now) };
 
-    /// The leaf that a key is under.
+    /// Returns the name and the bucket of the leaf that the key is under.
     fn leaf_of(&self, key: u64) -> (Name, &Arc<Bucket>)
         ensures { leaf_under key (leaves self.now) ≡ Some (record { name = result.0; bucket = arc_value result.1.now }) };
 
-    /// How many rows the leaf has that a key is under.
+    /// Returns the number of rows in the leaf that the key is under.
     fn count_at(&self, key: u64) -> u64
         ensures { CountAt key result (leaves self.now) }
     {
@@ -121,7 +122,7 @@ pub trait Index: Sized + Drop {
         bucket.count()
     }
 
-    /// What stands at a name.
+    /// Returns what the index has at a name.
     fn part(&self, name: &Name) -> Part<'_>
         ensures { IsPart (leaves self.now) name.now result }
     {
@@ -135,17 +136,18 @@ pub trait Index: Sized + Drop {
         }
     }
 
-    /// The place of the empty name.
+    /// Returns the place of the empty name, where a walk begins.
     fn top(&self) -> &Self::Place
         ensures { is_at self.now result.now [] };
 
-    /// What is below a place. Unlike `part`, it begins there and not at the top.
+    /// Returns what is below a place. It begins at the place, while `part` begins at the top.
     fn below<'a>(&'a self, name: &Name, place: &'a Self::Place) -> Below<'a, Self::Place>
         requires { is_at self.now place.now name.now }
         ensures { IsBelow (leaves self.now) (is_at self.now) name.now result };
 
-    /// A name that both keys are under and its place, the longest that a form finds soon: a walk over what lies between two
-    /// keys may begin there. A walk from the top goes through the same places, so it passes none by that lie between them.
+    /// Returns a name that both keys are under, and its place. A walk over the keys between them may begin there. The
+    /// name is the longest one that the implementation finds fast. A walk from the top goes through this place too, so
+    /// beginning here skips no place between the keys.
     fn reach<'a>(&'a self, from: u64, to: u64) -> (Name, &'a Self::Place)
         ensures at { is_at self.now result.1.now result.0 }
         ensures over { (is_under result.0 from ≡ true) × (is_under result.0 to ≡ true) }
@@ -154,7 +156,7 @@ pub trait Index: Sized + Drop {
         (Name::whole(), self.top())
     }
 
-    /// A place below this one, or this one, under which all rows of its leaves are: what it passes by are leaves without rows.
+    /// Returns a place at or below `place` that has all rows of its leaves. The walk skips only leaves without rows.
     fn narrow<'a>(&'a self, name: Name, place: &'a Self::Place) -> (Name, &'a Self::Place)
         requires { is_at self.now place.now name }
         ensures at { is_at self.now result.1.now result.0 }
@@ -163,7 +165,7 @@ pub trait Index: Sized + Drop {
         (name, place)
     }
 
-    /// How many rows the leaves have whose names begin with a place's, at most what 64 bits hold. It opens no bucket.
+    /// Returns the number of rows in the leaves below a place, at most 2^64 - 1. It opens no bucket.
     fn count_below(&self, name: &Name, place: &Self::Place) -> u64
         requires { is_at self.now place.now name.now }
         ensures { result ≡ min (length (all_rows (subtree name.now (leaves self.now)))) (2 ^ 64 - 1) }
@@ -187,14 +189,14 @@ pub trait Index: Sized + Drop {
         }
     }
 
-    /// The index with another bucket under a leaf's name.
+    /// Returns the index with another bucket at a leaf.
     fn replaced(&self, name: &Name, bucket: Arc<Bucket>) -> Result<Self, IndexFault>
         requires { AreUnder name.now (arc_value bucket).rows }
         ensures ok { IfOk result (λ index. leaves index ≡ replaced name.now (arc_value bucket) (leaves self.now)) }
         ensures no_leaf { IsErrOf result (IndexFault.NoLeaf name.now) ↔ (has_name name.now (leaves self.now) ≡ false) }
         ensures fault { IfErr result (λ e. (e ≡ IndexFault.NoLeaf name.now) ⊎ (e ≡ IndexFault.Memory)) };
 
-    /// The index with a leaf's children, in the order of their keys, in its place.
+    /// Returns the index with a leaf replaced by its children, in the order of their keys.
     fn split(&self, name: &Name, children: &[Arc<Bucket>]) -> Result<Self, IndexFault>
         requires short { length name.now + WIDTH ≤ 64 }
         requires count { length children.now ≡ 2 ^ WIDTH }
@@ -203,7 +205,7 @@ pub trait Index: Sized + Drop {
         ensures no_leaf { IsErrOf result (IndexFault.NoLeaf name.now) ↔ (has_name name.now (leaves self.now) ≡ false) }
         ensures fault { IfErr result (λ e. (e ≡ IndexFault.NoLeaf name.now) ⊎ (e ≡ IndexFault.Memory)) };
 
-    /// The index with a row more in the leaf of its key.
+    /// Returns the index with one more row, in the leaf of the row's key.
     fn with_row(&self, put: RowChange) -> Result<Self, Memory>
         requires { Holds put.row (leaves self.now) false }
         ensures { IfOk result (λ index. ChangesAt put.row.key (after_put put) (leaves self.now) (leaves index)) }
@@ -214,7 +216,7 @@ pub trait Index: Sized + Drop {
         or_memory(self.replaced(&name, bucket))
     }
 
-    /// The index with a row less in the leaf of its key.
+    /// Returns the index without the row, in the leaf of the row's key.
     fn without_row(&self, gone: RowChange) -> Result<Self, Memory>
         requires { Holds gone.row (leaves self.now) true }
         ensures { IfOk result (λ index. ChangesAt gone.row.key (after_gone gone) (leaves self.now) (leaves index)) }
@@ -225,7 +227,7 @@ pub trait Index: Sized + Drop {
         or_memory(self.replaced(&name, bucket))
     }
 
-    /// Puts another bucket under a leaf's name, once the step has succeeded.
+    /// Replaces the bucket of a leaf, once the step has succeeded.
     fn replace<C: Commit>(
         &mut self,
         name: &Name,
@@ -247,7 +249,7 @@ pub trait Index: Sized + Drop {
         Ok(())
     }
 
-    /// Puts a leaf's children, in the order of their keys, in its place, once the step has succeeded.
+    /// Replaces a leaf by its children, in the order of their keys, once the step has succeeded.
     fn divide<C: Commit>(
         &mut self,
         name: &Name,
@@ -270,7 +272,7 @@ pub trait Index: Sized + Drop {
         Ok(())
     }
 
-    /// Adds a row to the leaf of its key, once the step has succeeded, and answers how many rows that leaf has then.
+    /// Adds a row to the leaf of its key, once the step has succeeded, and returns the new number of rows in this leaf.
     fn put_row<C: Commit>(&mut self, put: RowChange, commit: &mut C) -> Result<u64, Undone>
         requires can { C.can commit.old }
         requires absent { Holds put.row (leaves self.old) false }
@@ -288,7 +290,7 @@ pub trait Index: Sized + Drop {
         Ok(count)
     }
 
-    /// Takes a row out of the leaf of its key, once the step has succeeded.
+    /// Removes a row from the leaf of its key, once the step has succeeded.
     fn take_row<C: Commit>(&mut self, gone: RowChange, commit: &mut C) -> Result<(), Undone>
         requires can { C.can commit.old }
         requires present { Holds gone.row (leaves self.old) true }
@@ -304,8 +306,8 @@ pub trait Index: Sized + Drop {
         Ok(())
     }
 
-    /// Takes a row out of the leaf of its key and adds another one to that of its own, once the step has succeeded, and answers how
-    /// many rows the second leaf has then.
+    /// Removes one row from the leaf of its key and adds another to the leaf of its own key, once the step has
+    /// succeeded. Returns the new number of rows in the second leaf.
     fn move_row<C: Commit>(
         &mut self,
         from: RowChange,
@@ -333,5 +335,5 @@ pub trait Index: Sized + Drop {
     /// The names tile the key space, and the rows of each leaf are in order and under its name.
     ghost are_leaves: { (index : Self) → AreLeaves (leaves index) };
 
-    ghost width: { (WIDTH ≡ 1) ⊎ (WIDTH ≡ 2) };
+    ghost width: { IsWidth WIDTH };
 }

@@ -1,10 +1,10 @@
-//! How two names stand to each other.
+//! How two names lie to each other.
 ghost use Rattle.std.specs.Prelude.{◌≡◌};
 ghost use Rattle.index_layer.specs.Part.{goes_on};
 
 use zorder::{Name, begins};
 
-/// Whether a name begins another one that is longer.
+/// Returns whether the second name is longer and begins with the first.
 pub fn goes_on(name: &Name, long: &Name) -> bool
     ensures { result ≡ goes_on name.now long.now }
 {

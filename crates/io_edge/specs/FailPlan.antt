@@ -1,4 +1,4 @@
--- Which calls of an object in memory are to fail, and how many came and failed so far.
+-- Which calls of a source or sink in memory fail, and how many calls were made and failed so far.
 use Rattle.std.specs.Prelude.{ℕ, List, Contains}
 use Rattle.causes.specs.Causes.{one_more}
 
@@ -8,7 +8,7 @@ pub record FailPlan : Type 0 where
   pub calls : ℕ
   pub faults : ℕ
 
--- before any call
+-- the plan before any call
 abbrev pub planned : List ℕ → FailPlan
 planned failing = record { failing = failing; calls = 0; faults = 0 }
 
@@ -16,10 +16,10 @@ planned failing = record { failing = failing; calls = 0; faults = 0 }
 abbrev pub IsListed : FailPlan → Type 0
 IsListed plan = Contains plan.failing (one_more plan.calls)
 
--- after one more call
+-- the plan after one more call
 abbrev pub counted : FailPlan → FailPlan
 counted plan = record plan { calls = one_more plan.calls }
 
--- after one more fault
+-- the plan after one more fault
 abbrev pub failed : FailPlan → FailPlan
 failed plan = record plan { faults = one_more plan.faults }

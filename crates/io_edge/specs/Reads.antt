@@ -5,11 +5,11 @@ use Rattle.causes.specs.Causes.{Rose}
 use Rattle.io_edge.specs.declared.source.ReadFault.{ReadFault}
 use Rattle.io_edge.specs.declared.source.ReadFault.TheVariants.{Source}
 
--- the known bytes lose a front of at most `most` bytes
+-- the known bytes lose a prefix of at most `most` bytes
 abbrev pub ConsumesUpTo : ℕ → Option (List ℕ) → Option (List ℕ) → Type 0
 ConsumesUpTo most old new = (bs : List ℕ) × (length bs ≤ most) × Consumes old new bs
 
--- a source's count over a read to the end: it never falls, rose where the source is told to have failed, and is as it was with any other answer
+-- a source's count over a read to the end: it never falls, it rose if the result is Source, and else it is unchanged
 pub record CountsReads {T : Type 0} (old new : ℕ) (result : Result T ReadFault) : Type 0 where
   pub later : old ≤ new
   pub failed : IsErrOf result Source → Rose old new

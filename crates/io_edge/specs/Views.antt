@@ -12,13 +12,13 @@ pub record SinkView : Type 0 where
   pub room : ℕ
   pub plan : FailPlan
 
--- a read gives the next bytes, as many as there are and fit, and at a fault nothing
+-- a read returns the next bytes, as many as are left and fit; a read that fails takes nothing
 abbrev pub ReadsNext : {E : Type 0} → SourceView → SourceView → List ℕ → List ℕ → Result ℕ E → Type 0
 ReadsNext old new before after result = MatchResult result
     (λ n. (n ≡ min (length before) (length old.left)) × (after ≡ take n old.left ++ drop n before) × (new ≡ record { left = drop n old.left; plan = counted old.plan }))
     (λ _. (after ≡ before) × (new ≡ record old { plan = failed (counted old.plan) }))
 
--- a put takes the whole piece, and at a fault nothing
+-- a put takes the whole piece; a put that fails takes nothing
 abbrev pub PutsWhole : {T E : Type 0} → SinkView → SinkView → List ℕ → Result T E → Type 0
 PutsWhole old new piece result = MatchResult result
     (λ _. new ≡ record old { taken = old.taken ++ piece; plan = counted old.plan })

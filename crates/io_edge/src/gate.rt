@@ -1,6 +1,6 @@
-//! A hook that a test hands in, reached at four points of a call outside the lock.
+//! A hook that tests use to pause a call at four points outside the lock.
 
-/// Where a hook is reached: a snapshot was handed out, a split was begun, its children are ready, or a call's answer stands.
+/// When the hook is called: a snapshot was handed out, a split began, its children are ready, or the answer is fixed.
 #[derive(Clone, Copy, Debug, PartialEq, Eq)]
 pub enum GatePoint {
     Taken,
@@ -9,12 +9,13 @@ pub enum GatePoint {
     Answered,
 }
 
-/// A hook, which may let the caller wait. A lane is a session's number, and 0 where the splits left over are settled.
+/// A hook, which may block its caller. `lane` is the session's number, or 0 while the splits left at the end are
+/// settled.
 pub trait Gate {
     fn reach(&self, point: GatePoint, lane: u8);
 }
 
-/// A hook that returns at once.
+/// The hook for use outside tests: it returns at once.
 #[derive(Clone, Copy, Debug, PartialEq, Eq)]
 pub struct OpenGate;
 

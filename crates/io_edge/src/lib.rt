@@ -1,11 +1,12 @@
-//! Where bytes come from and where they go: sources and sinks, each with a count of its faults.
+//! Sources of bytes and sinks for bytes, each with a count of its faults.
 //!
-//! Contracts see a source as an `Input` and a sink as an `Output`: the bytes left or taken, where these are known, and a
-//! count that rises exactly at a fault. `read_all` is the bounded read: Ok has all that was left, and `TooLong` comes exactly above the
-//! bound. `MemSource` and `MemSink` fail at the calls that they were told to; `StdSource` and `StdSink` stand over
-//! std's readers and writers, and know what these know.
+//! Contracts see a source as an `Input` and a sink as an `Output`: the bytes left or taken, if they are known, and the
+//! count of faults, which rises if and only if a call fails. `read_all` reads to the end, up to a bound: `Ok` has all
+//! bytes that were left, and `TooLong` means that more were left than the bound. `MemSource` and `MemSink` are in
+//! memory and fail at the calls that the caller lists. `StdSource` and `StdSink` wrap readers and writers of std, and
+//! know what these know.
 //!
-//! Not here: what bytes mean (the crates of texts), log files (`disk_trait`), and what a real stream carries.
+//! Not here: what the bytes mean (the crates of texts), log files (`disk_trait`), and what a real stream carries.
 #![tactic(auto)]
 
 mod gate;

@@ -1,4 +1,4 @@
-//! A sink in memory, which fails at the puts that it was told to and where its room is used up.
+//! A sink in memory. It fails at the puts that the caller lists, and when its room is full.
 ghost use Rattle.std.specs.Prelude.{◌≡◌, ◌≤◌, ◌<◌, ◌+◌, ◌↔◌, ◌⊎◌, [], Some, IfOk, IsErr, length, vec_capacity};
 ghost use Rattle.causes.specs.Causes.{Counts};
 ghost use Rattle.io_edge.specs.FailPlan.{planned, IsListed};
@@ -11,7 +11,7 @@ use std::alloc::Global;
 use std::marker::Model;
 use zorder::Memory;
 
-/// A sink that keeps what it takes.
+/// A sink that keeps all bytes it takes.
 #[derive(Drop)]
 pub struct MemSink {
     bytes: Vec<u8>,
@@ -28,8 +28,8 @@ impl Model for MemSink {
 }
 
 impl MemSink {
-    /// It takes at most `room` bytes in all, and its memory here. `failing` lists the puts that fail by their numbers,
-    /// counted from 1; the number stays at the greatest `u64`.
+    /// Creates a sink with room for `room` bytes, and reserves this memory at once. `failing` has the numbers of the
+    /// puts that fail, counted from 1. After put 2^64 - 1 the number no longer rises.
     pub fn new(alloc: Global, room: usize, failing: Vec<u64>) -> Result<MemSink, Memory>
         ensures { IfOk result (λ s. s ≡ record { taken = []; room = room; plan = planned failing.items }) }
     {
@@ -40,7 +40,7 @@ impl MemSink {
         })
     }
 
-    /// What it took so far.
+    /// Returns the bytes taken so far.
     pub fn bytes(&self) -> &[u8]
         ensures { result.now ≡ self.now.taken }
     {

@@ -1,4 +1,4 @@
-//! A source over bytes in memory, which fails at the reads that it was told to.
+//! A source over bytes in memory. It fails at the reads that the caller lists.
 ghost use Rattle.std.specs.Prelude.{◌≡◌, ◌≤◌, ◌↔◌, Some, IfOk, IsErr, length, drop};
 ghost use Rattle.std.specs.Io.KnownBytes.{ReadConsumes};
 ghost use Rattle.causes.specs.Causes.{Counts};
@@ -9,7 +9,7 @@ use crate::plan::Plan;
 use crate::source::{Source, SourceFault};
 use std::marker::Model;
 
-/// Bytes in memory as a source. A read gives as many of them as fit.
+/// Bytes in memory as a source. Each read returns as many bytes as fit.
 #[derive(Drop)]
 pub struct MemSource {
     bytes: Vec<u8>,
@@ -26,7 +26,8 @@ impl Model for MemSource {
 }
 
 impl MemSource {
-    /// `failing` lists the reads that fail by their numbers, counted from 1. The number stays at the greatest `u64`.
+    /// `failing` has the numbers of the reads that fail, counted from 1. After read 2^64 - 1 the number no longer
+    /// rises.
     pub fn new(bytes: Vec<u8>, failing: Vec<u64>) -> MemSource
         ensures { result ≡ record { left = bytes.items; plan = planned failing.items } }
     {

@@ -1,10 +1,10 @@
-//! Which calls of an object in memory are to fail.
+//! Which calls of a source or sink in memory fail.
 ghost use Rattle.std.specs.Prelude.{◌≡◌, ◌≤◌, ◌↔◌, IsTrue};
 ghost use Rattle.io_edge.specs.FailPlan.{FailPlan, planned, counted, failed, IsListed};
 
 use std::marker::Model;
 
-// The numbers of the calls that fail, counted from 1, and how many calls came and failed so far.
+// The numbers of the calls that fail, counted from 1, and how many calls were made and failed so far.
 #[derive(Drop)]
 pub(crate) struct Plan {
     failing: Vec<u64>,
@@ -29,7 +29,7 @@ impl Plan {
         }
     }
 
-    // Counts a call, and answers whether it is listed to fail.
+    // Counts a call, and returns whether it is listed to fail.
     pub(crate) fn begin(&mut self) -> bool
         ensures listed { IsTrue result ↔ IsListed self.old }
         ensures after { self.new ≡ counted self.old }

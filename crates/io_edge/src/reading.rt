@@ -1,27 +1,27 @@
-//! Reading to the end, up to a bound.
+//! Reading a source to its end, up to a bound.
 ghost use Rattle.std.specs.Prelude.{◌≡◌, ◌+◌, ◌≤◌, ◌<◌, List, [], ℕ, Some, IfOk, IsErrOf, IsOkUnless, OnOk, ◌++◌, length};
 ghost use Rattle.io_edge.specs.Reads.{ConsumesUpTo, CountsReads};
 
 use crate::source::{ReadFault, Source};
 use std::alloc::Global;
 
-// How many bytes are asked for at once.
+// The number of bytes that one read may return.
 const PIECE: usize = 65_536;
 
-/// All that `source` has left, where that is at most `most` bytes. It takes at most one byte more, to see the end.
+/// Reads all bytes that `source` has left, at most `most` bytes. It takes at most one byte more, to find the end.
 pub fn read_all<S: Source>(alloc: Global, source: &mut S, most: usize) -> Result<Vec<u8>, ReadFault>
-    // Ok has all that was left, and leaves nothing.
+    // Ok has all bytes that were left, and none is left after it.
     ensures all { IfOk result (λ v. (xs : List ℕ) → (S.input source.old).left ≡ Some xs
         → (v.items ≡ xs) × ((S.input source.new).left ≡ Some [])) }
 
-    // More than `most` bytes are never Ok, and TooLong comes for nothing else.
+    // More than `most` bytes are never Ok, and TooLong has no other cause.
     ensures few { IfOk result (λ v. length v.items ≤ most) }
     ensures too_long { IsErrOf result ReadFault.TooLong → (xs : List ℕ) → (S.input source.old).left ≡ Some xs → most < length xs }
 
-    // Whatever the answer, a rest is left.
+    // Whatever the result, the source loses a prefix of its bytes.
     ensures taken { ConsumesUpTo (most + 1) (S.input source.old).left (S.input source.new).left }
 
-    // The source's fault comes only where its count rose, and a read that failed is never passed over.
+    // The source's fault comes only if its count rose, and a failed read is never skipped.
     ensures count { CountsReads (S.input source.old).faults (S.input source.new).faults result }
 {
     let mut buffer = buffer(alloc)?;
@@ -39,7 +39,7 @@ pub fn read_all<S: Source>(alloc: Global, source: &mut S, most: usize) -> Result
     }
 }
 
-// The place that each piece is read into. It stands on the heap, since a function pays at entry for its locals.
+// The buffer for each piece. It is on the heap because a function pays at entry for its locals.
 fn buffer(alloc: Global) -> Result<Vec<u8>, ReadFault>
     ensures room { IfOk result (λ v. 0 < length v.items) }
     ensures memory { IsOkUnless result ReadFault.Memory }

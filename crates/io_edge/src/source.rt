@@ -1,4 +1,4 @@
-//! Where bytes come from.
+//! The trait of sources.
 ghost use Rattle.std.specs.Prelude.{◌≡◌, ◌≤◌, IfOk, length};
 ghost use Rattle.std.specs.Io.KnownBytes.{ReadConsumes};
 ghost use Rattle.causes.specs.Causes.{Counts};
@@ -6,16 +6,16 @@ ghost use Rattle.io_edge.specs.Streams.{Input};
 
 use std::alloc::AllocError;
 
-/// A read failed, and took nothing.
+/// A read failed and took nothing.
 #[derive(Clone, Copy, Debug, PartialEq, Eq)]
 pub struct SourceFault;
 
-/// Why a read to the end gave up. The source is left with a rest of what it had, and what was read is gone.
+/// Why a read to the end failed. The bytes that were read are lost, and the source keeps the rest.
 #[derive(Clone, Copy, Debug, PartialEq, Eq)]
 pub enum ReadFault {
-    /// The source failed.
+    /// A read failed.
     Source,
-    /// More bytes came than the caller takes.
+    /// The source has more bytes than the caller's bound.
     TooLong,
     /// Memory ran out.
     Memory,
@@ -31,12 +31,12 @@ impl From<AllocError> for ReadFault {
     }
 }
 
-/// Where bytes come from, a piece at a time.
+/// Returns bytes, a piece at a time.
 pub trait Source {
-    /// The bytes that are left, where they are known, and how often it has failed.
+    /// The bytes that are left, if they are known, and the number of faults.
     ghost input: { Self → Input };
 
-    /// Fills a front of `into` and answers its length. 0 into a slice that isn't empty is the end of input.
+    /// Fills a prefix of `into` and returns its length. If `into` isn't empty, 0 means the end of input.
     fn read(&mut self, into: &mut [u8]) -> Result<usize, SourceFault>
         ensures bound { IfOk result (λ n. n ≤ length into.old) }
         ensures bytes { ReadConsumes (input self.old).left (input self.new).left result into.new }

@@ -1,11 +1,12 @@
-//! A sink over std's writers.
+//! A sink over a writer of std.
 ghost use Rattle.std.specs.Prelude.{◌≡◌};
 
 use crate::sink::{Sink, SinkFault};
 use std::io::Write;
 
-/// A writer as a sink, which knows the bytes that its writer knows. A put goes on after a short write. Each error counts
-/// as a fault, and so does a write that takes nothing. It never flushes: over a buffered writer a put may not be seen.
+/// A writer as a sink. It knows the bytes that its writer knows. A put continues after a short write. Each error counts
+/// as a fault, and so does a write that takes no byte. The sink never flushes, so a buffered writer may still hold the
+/// bytes.
 #[derive(Drop)]
 pub struct StdSink<W> {
     writer: W,
@@ -13,7 +14,7 @@ pub struct StdSink<W> {
 }
 
 impl<W: Write> StdSink<W> {
-    /// A sink over `writer`, behind what that holds.
+    /// Creates a sink that appends to what `writer` already holds.
     pub fn new(writer: W) -> StdSink<W>
         ensures { ⟦<StdSink<W> as Sink>⟧.output result ≡ record { taken = W.contents writer; faults = 0 } }
     {

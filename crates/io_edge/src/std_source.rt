@@ -1,11 +1,11 @@
-//! A source over std's readers.
+//! A source over a reader of std.
 ghost use Rattle.std.specs.Prelude.{◌≡◌};
 
 use crate::source::{Source, SourceFault};
 use std::io::Read;
 
-/// A reader as a source, which knows the bytes that its reader knows. Each error counts as a fault, one for a signal that
-/// came in between too.
+/// A reader as a source. It knows the bytes that its reader knows. Each error counts as a fault, and so does a read
+/// that a signal interrupts.
 #[derive(Drop)]
 pub struct StdSource<R> {
     reader: R,
@@ -13,7 +13,7 @@ pub struct StdSource<R> {
 }
 
 impl<R: Read> StdSource<R> {
-    /// A source over `reader`, from where that stands.
+    /// Creates a source that begins where `reader` is now.
     pub fn new(reader: R) -> StdSource<R>
         ensures { ⟦<StdSource<R> as Source>⟧.input result ≡ record { left = R.remaining reader; faults = 0 } }
     {

@@ -8,10 +8,10 @@ use Rattle.bit_trie.specs.Tries.{Trie}
 use Rattle.kd_trie.specs.Nodes.{seen}
 use Rattle.kd_trie.specs.Stems.{stem_over}
 
--- what is beside the stem
+-- the steps of a stem
 abbrev pub sides_of : Stem → List Side
 sides_of s = (arc_value s.aside).items
 
--- the trie whose first pairs the stem stands for
+-- the whole trie: the stem's steps above the root
 abbrev pub whole : Stemmed → Trie
 whole s = stem_over (sides_of s.stem) (seen s.root)

@@ -1,4 +1,4 @@
-//! Nodes: a leaf's bucket, or two halves.
+//! The nodes of the trie: a leaf's bucket, or two halves.
 ghost use Rattle.std.specs.Prelude.{◌≡◌, ◌≤◌, ◌+◌, ◌-◌, ◌^◌, min, Some, true, length, IfOk, IfSome, OnOk, OnErr};
 ghost use Rattle.std.specs.Arc.{arc_value};
 ghost use Rattle.std.specs.Borrow.{sem};
@@ -15,7 +15,7 @@ use bucket_versions::{Bucket, Commit, Undone, own};
 use std::alloc::{AllocError, Global};
 use std::sync::Arc;
 
-/// A leaf's bucket, or what is under the next bit.
+/// A leaf's bucket, or the two nodes for the next bit.
 #[derive(Drop)]
 #[cycle(trie)]
 pub enum Node {
@@ -23,7 +23,7 @@ pub enum Node {
     Inner(Arc<Pair>),
 }
 
-/// What is under the next bit 0, and under the next bit 1, and how many rows that is.
+/// The nodes for the next bit 0 and 1, and the number of rows below both.
 #[derive(Drop)]
 #[cycle(trie)]
 pub struct Pair {
@@ -33,7 +33,7 @@ pub struct Pair {
 }
 
 impl Node {
-    /// An equal node, which shares all below.
+    /// Returns an equal node, which shares all nodes below.
     pub(crate) fn share(&self) -> Result<Node, AllocError>
         ensures { IfOk result (λ n. (seen n ≡ seen self.now) × (is_counted n ≡ is_counted self.now)) }
     {
@@ -43,7 +43,7 @@ impl Node {
         }
     }
 
-    /// How many rows there are.
+    /// Returns the number of rows below the node, as stored.
     pub(crate) fn count(&self) -> u64
         requires { is_counted self.now ≡ true }
         ensures { result ≡ rows_in (seen self.now) }
@@ -58,7 +58,7 @@ impl Node {
 impl Clone for Pair {
     ghost is_clone = { λ pair copy. Copies pair copy };
 
-    // An equal pair, for who changes it.
+    // Copies the pair, for a caller that changes the copy. The nodes below are shared.
     fn clone(&self) -> Result<Pair, AllocError> {
         let zero = self.zero.share()?;
         let one = self.one.share()?;
@@ -70,7 +70,7 @@ impl Clone for Pair {
     }
 }
 
-// The half of a pair that a bit leads to, to write to.
+// Returns the half of a pair for a bit, to write to.
 #[inline(always)]
 pub(crate) fn half(pair: &mut Pair, bit: bool) -> &mut Node
     ensures* lends { sem 𝓛 (LendsHalf pair.entry bit result) }
@@ -80,7 +80,7 @@ pub(crate) fn half(pair: &mut Pair, bit: bool) -> &mut Node
     if bit { &mut pair.one } else { &mut pair.zero }
 }
 
-/// Puts a node in the place of the leaf that the last `left` bits of a key lead to, once the step has succeeded.
+/// Replaces the leaf to which the last `left` bits of a key lead by a node, once the step has succeeded.
 pub(crate) fn graft<C: Commit>(
     node: &mut Node,
     key: u64,
@@ -119,7 +119,7 @@ pub(crate) fn graft<C: Commit>(
     }
 }
 
-/// How many rows there are, at most what 64 bits hold, by the leaves alone.
+/// Adds up the rows of all leaves, at most 2^64 - 1, without the stored counts.
 pub(crate) fn tally(node: &Node) -> u64
     ensures { result ≡ min (rows_in (seen node.now)) (2 ^ 64 - 1) }
 {
@@ -129,7 +129,7 @@ pub(crate) fn tally(node: &Node) -> u64
     }
 }
 
-// How many rows there are, if the counts of all pairs are right.
+// Returns the number of rows, if the counts of all pairs are right.
 fn told(node: &Node) -> Option<u64>
     ensures { IfSome result (λ n. (is_counted node.now ≡ true) × (n ≡ rows_in (seen node.now))) }
 {
@@ -148,7 +148,7 @@ fn told(node: &Node) -> Option<u64>
     }
 }
 
-/// An equal node whose counts are right. What is right below this one is shared.
+/// Returns an equal node with right counts. It shares what already has right counts below.
 pub(crate) fn recounted(alloc: Global, node: &Node) -> Result<Node, AllocError>
     ensures { IfOk result (λ n. (seen n ≡ seen node.now) × (is_counted n ≡ true)) }
 {
@@ -166,7 +166,7 @@ pub(crate) fn recounted(alloc: Global, node: &Node) -> Result<Node, AllocError>
     }
 }
 
-/// Two leaves of these buckets.
+/// Returns a node with two leaves.
 pub(crate) fn twins(alloc: Global, zero: Arc<Bucket>, one: Arc<Bucket>) -> Result<Node, AllocError>
     ensures { IfOk result (λ node. (seen node ≡ twins (arc_value zero) (arc_value one)) × (is_counted node ≡ true)) }
 {
@@ -179,7 +179,7 @@ pub(crate) fn twins(alloc: Global, zero: Arc<Bucket>, one: Arc<Bucket>) -> Resul
     Ok(Node::Inner(Arc::new(alloc, pair)?))
 }
 
-/// The bucket that the last `left` bits of a key lead to, and how many bits are left there.
+/// Returns the bucket to which the last `left` bits of a key lead, and how many bits are left at its leaf.
 pub(crate) fn leaf_of(node: &Node, key: u64, left: u8) -> (u8, &Arc<Bucket>)
     requires fits { Fits left (seen node.now) }
     ensures bucket { bucket_at (low_bits left key) (seen node.now) ≡ Some (arc_value result.1.now) }
@@ -197,7 +197,8 @@ pub(crate) fn leaf_of(node: &Node, key: u64, left: u8) -> (u8, &Arc<Bucket>)
     }
 }
 
-/// Goes down while two keys go on with the same bit: how many of their bits are left there, and the node.
+/// Goes down as long as the next bits of two keys are the same. Returns how many bits are left at the node, and the
+/// node.
 pub(crate) fn agreed(node: &Node, from: u64, to: u64, left: u8) -> (u8, &Node)
     requires fits { Fits left (seen node.now) }
     ensures agrees { Agrees from to left result.0 (seen node.now) (seen result.1.now) }

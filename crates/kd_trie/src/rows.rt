@@ -1,7 +1,7 @@
-//! Rows that are put, taken and moved in a trie that is changed in place.
+//! Adding, removing and moving rows in a trie that is changed in place.
 //!
-//! Each pair's count is written on the way down, so that the way is a loop: a change that fails behind that leaves counts wrong, which
-//! who called it makes anew.
+//! Each pair's count is written on the way down, so that the way down is a loop. A change that fails after that leaves
+//! wrong counts, and the caller computes them again.
 ghost use Rattle.std.specs.Prelude.{◌≡◌, ◌+◌, true, false, length, IfOk, OnOk, OnErr};
 ghost use Rattle.std.specs.Arc.{arc_value};
 ghost use Rattle.bucket_versions.specs.Rows.{has_row, after_gone};
@@ -15,7 +15,7 @@ use bit_trie::{Coming, Going, next_bit, pass_there, put_there, shift_there, take
 use bucket_versions::{Bucket, Commit, RowChange, Undone, own};
 use std::sync::Arc;
 
-/// Adds a row to the leaf that the last `left` bits of its key lead to, once the step has succeeded.
+/// Adds a row to the leaf to which the last `left` bits of its key lead, once the step has succeeded.
 pub(crate) fn put_row<C: Commit>(node: &mut Node, to: &mut Coming, left: u8, commit: &mut C)
     requires can { C.can commit.old }
     requires fits { Fits left (seen node.old) }
@@ -46,7 +46,7 @@ pub(crate) fn put_row<C: Commit>(node: &mut Node, to: &mut Coming, left: u8, com
     }
 }
 
-/// Takes a row out of the leaf that the last `left` bits of its key lead to, once the step has succeeded.
+/// Removes a row from the leaf to which the last `left` bits of its key lead, once the step has succeeded.
 pub(crate) fn take_row<C: Commit>(node: &mut Node, from: &mut Going, left: u8, commit: &mut C)
     requires can { C.can commit.old }
     requires fits { Fits left (seen node.old) }
@@ -72,7 +72,7 @@ pub(crate) fn take_row<C: Commit>(node: &mut Node, from: &mut Going, left: u8, c
     }
 }
 
-/// Takes a row out and adds another one, once the step has succeeded.
+/// Removes a row and adds another one, once the step has succeeded.
 pub(crate) fn shift_row<C: Commit>(
     node: &mut Node,
     from: &RowChange,
@@ -113,7 +113,7 @@ pub(crate) fn shift_row<C: Commit>(
     }
 }
 
-// Takes a row out of one node and adds one to another.
+// Removes a row from one node and adds one to another node.
 fn pass_row<C: Commit>(
     node: &mut Node,
     from: &RowChange,
@@ -150,7 +150,7 @@ fn pass_row<C: Commit>(
     }
 }
 
-// Takes a row out of a leaf and adds one to a node.
+// Removes a row from a leaf and adds one to a node.
 fn pass_on<C: Commit>(
     leaf: &mut Arc<Bucket>,
     from: &RowChange,

@@ -1,4 +1,4 @@
-//! A trie may be sent to another thread, and shared by threads.
+//! Checks at compile time that the trie can be sent to other threads and shared by them.
 use crate::trie::KdTrie;
 
 fn in_threads<T: Send + Sync>() {}

@@ -1,4 +1,4 @@
-//! The way from the top of a trie to where it branches, kept as one list in the place of its pairs.
+//! The stem: the path from the top of a trie to its first branch, as one list instead of pairs.
 ghost use Rattle.std.specs.Prelude.{◌≡◌, ◌≤◌, ◌+◌, [], Some, None, true, length, IfOk, IfSome};
 ghost use Rattle.std.specs.Arc.{arc_value};
 ghost use Rattle.zorder.specs.Bits.{low_bits};
@@ -15,16 +15,16 @@ use std::alloc::{AllocError, Global};
 use std::sync::Arc;
 use zorder::{Name, child};
 
-/// What stands beside one step of a way.
+/// One step of a stem.
 #[derive(Drop)]
 pub(crate) struct Side {
-    /// The bit by which the way goes on.
+    /// The bit of the step.
     pub(crate) bit: bool,
-    /// What is under the other one.
+    /// The node for the other bit.
     pub(crate) node: Node,
 }
 
-/// A way from the top, as a name, and what stands beside each of its steps: leaves without rows.
+/// A path from the top, as a name, and the node next to each of its steps. Each of these nodes is a leaf without rows.
 #[derive(Drop)]
 pub(crate) struct Stem {
     pub(crate) name: Name,
@@ -33,24 +33,25 @@ pub(crate) struct Stem {
     ghost bare: { all_bare (arc_value aside).items ≡ true },
 }
 
-/// A trie: a stem, and the node that it leads to.
+/// A trie: a stem, and the node to which it leads.
 ///
-/// Where all objects are in one small region, each trie over them begins with a long way that has nothing beside it. As pairs it would
-/// be copied with each path; as a stem it is shared whole.
+/// If all objects are in one small region, each trie over them begins with a long path without a branch. As pairs, this
+/// path would be copied with each changed path. As a stem, it is shared whole.
 #[derive(Drop)]
 pub(crate) struct Stemmed {
     pub(crate) alloc: Global,
     pub(crate) stem: Stem,
     pub(crate) root: Node,
-    /// Of how many changes, of late, each could have lengthened the stem.
+    /// How many of the latest changes, without a gap, could have lengthened the stem.
     pub(crate) waited: u8,
-    /// Whether the counts of all pairs are right: not behind a change that failed on its way, if there was no memory to make them anew.
+    /// Whether the counts of all pairs are right. They may be wrong after a failed change, if there was no memory to
+    /// recount.
     pub(crate) counts_hold: bool,
     ghost counted: { counts_hold ≡ true → is_counted root ≡ true },
 }
 
 impl Stem {
-    /// The stem of no bits.
+    /// Returns the stem of no bits.
     pub(crate) fn none(alloc: Global) -> Result<Stem, AllocError>
         ensures sides { IfOk result (λ s. (arc_value s.aside).items ≡ []) }
         ensures name { IfOk result (λ s. s.name ≡ []) }
@@ -62,7 +63,7 @@ impl Stem {
         })
     }
 
-    /// An equal stem, which shares all.
+    /// Returns an equal stem, which shares its list.
     pub(crate) fn share(&self) -> Result<Stem, AllocError>
         ensures { IfOk result (λ s. (arc_value s.aside).items ≡ (arc_value self.now.aside).items) }
     {
@@ -73,7 +74,7 @@ impl Stem {
         })
     }
 
-    /// What stands beside the step behind a name, where the way goes on from that name.
+    /// Returns the step that comes after a name, if the stem continues after that name.
     pub(crate) fn side_past(&self, name: &Name) -> Option<&Side>
         ensures some { IfSome result (λ s. Passing name.now (arc_value self.now.aside).items s.now) }
         ensures none { result ≡ None → GoesPast name.now self.now.name → ⊥ }
@@ -86,7 +87,8 @@ impl Stem {
     }
 }
 
-/// The bucket that the last `left` bits of a key lead to where these sides begin, and how many bits are left there.
+/// Returns the bucket to which the last `left` bits of a key lead, where `sides` begin, and how many bits are left at
+/// its leaf.
 pub(crate) fn leaf_past<'a>(
     sides: &'a [Side],
     root: &'a Node,
@@ -108,7 +110,7 @@ pub(crate) fn leaf_past<'a>(
     }
 }
 
-/// The node that stands for these sides and what they lead to.
+/// Returns the node that a stem with these steps and the node `root` represent.
 pub(crate) fn unwound(alloc: Global, sides: &[Side], root: &Node) -> Result<Node, AllocError>
     requires bare { all_bare sides.now ≡ true }
     requires counted { is_counted root.now ≡ true }
@@ -137,8 +139,8 @@ pub(crate) fn unwound(alloc: Global, sides: &[Side], root: &Node) -> Result<Node
     Ok(Node::Inner(Arc::new(alloc, pair)?))
 }
 
-/// Where exactly one half is a leaf without rows: the bit that leads to the other half, the leaf, and the other half. Only past
-/// such a leaf does a stem lead, so a change of a row that is there never leads off it.
+/// Returns the bit of the other half, the leaf and the other half, if exactly one half of the node is a leaf without
+/// rows. A stem goes only past such leaves, so a change of a present row never leaves the stem.
 pub(crate) fn step(node: &Node) -> Option<(bool, &Node, &Node)>
     ensures halves { IfSome result (λ s. seen node.now ≡ halves s.0 (seen s.1.now) (seen s.2.now)) }
     ensures bare { IfSome result (λ s. is_bare (seen s.1.now) ≡ true) }
@@ -157,7 +159,7 @@ pub(crate) fn step(node: &Node) -> Option<(bool, &Node, &Node)>
     }
 }
 
-/// Whether some half is a leaf. Where none is, there is no step past a leaf without rows.
+/// Returns whether a half is a leaf. If none is, no step goes past a leaf without rows.
 #[inline(always)]
 pub(crate) fn has_leaf_half(node: &Node) -> bool {
     let Node::Inner(pair) = node else {
@@ -179,7 +181,7 @@ fn is_bare(node: &Node) -> bool
     }
 }
 
-/// Goes down while exactly one half is a leaf without rows, and puts that half to the sides.
+/// Goes down as long as exactly one half is a leaf without rows, and appends each such step to `aside` and `name`.
 pub(crate) fn stretch(
     name: &mut Name,
     aside: &mut Vec<Side>,
@@ -204,7 +206,7 @@ pub(crate) fn stretch(
     stretch(name, aside, on)
 }
 
-/// Goes down while exactly one half is a leaf without rows.
+/// Goes down as long as exactly one half is a leaf without rows.
 pub(crate) fn narrowed(name: Name, node: &Node) -> (Name, &Node)
     ensures narrows { Narrows name result.0 (seen node.now) (seen result.1.now) }
     ensures counted { is_counted node.now ≡ true → is_counted result.1.now ≡ true }

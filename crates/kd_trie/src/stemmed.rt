@@ -1,4 +1,4 @@
-//! A trie with its stem, and its changes.
+//! A trie with its stem, and the changes of it.
 ghost use Rattle.std.specs.Prelude.{◌≡◌, ◌≤◌, ◌+◌, ◌-◌, ◌^◌, min, ℕ, [], Some, length, true, false, IfOk, IfSome, OnOk, OnErr};
 ghost use Rattle.std.specs.Arc.{arc_value};
 ghost use Rattle.zorder.specs.Bits.{low_bits};
@@ -19,11 +19,11 @@ use std::alloc::{AllocError, Global};
 use std::sync::Arc;
 use zorder::{Name, begins};
 
-// How many changes in turn could lengthen a stem before one does.
+// How many changes in sequence could have lengthened a stem before the next one does.
 const CHANGES_WAITED: u8 = 63;
 
 impl Stemmed {
-    /// One leaf.
+    /// Creates a trie with one leaf.
     pub(crate) fn leaf(alloc: Global, bucket: Arc<Bucket>) -> Result<Stemmed, AllocError>
         ensures { IfOk result (λ s. whole s ≡ tip (arc_value bucket)) }
     {
@@ -37,7 +37,7 @@ impl Stemmed {
         })
     }
 
-    /// An equal trie, which shares all.
+    /// Returns an equal trie, which shares all nodes.
     pub(crate) fn share(&self) -> Result<Stemmed, AllocError>
         ensures { IfOk result (λ s. whole s ≡ whole self.now) }
     {
@@ -52,7 +52,7 @@ impl Stemmed {
         })
     }
 
-    /// The bucket that a key leads to, and how many of its bits are left there.
+    /// Returns the bucket to which a key leads, and how many of its bits are left at its leaf.
     pub(crate) fn leaf_of(&self, key: u64) -> (u8, &Arc<Bucket>)
         requires { height (whole self.now) ≤ 64 }
         ensures bucket { bucket_at (low_bits 64 key) (whole self.now) ≡ Some (arc_value result.1.now) }
@@ -65,7 +65,8 @@ impl Stemmed {
         }
     }
 
-    /// Where the ways of two keys under the stem part: how many of their bits are left there, and the node.
+    /// Returns the node at which the paths of two keys under the stem separate, and how many of their bits are left
+    /// there.
     pub(crate) fn parting(&self, from: u64, to: u64) -> Option<(u8, &Node)>
         requires { height (whole self.now) ≤ 64 }
         ensures agrees { IfSome result (λ p. Agrees from to 64 p.0 (whole self.now) (seen p.1.now)) }
@@ -79,7 +80,7 @@ impl Stemmed {
         }
     }
 
-    /// How many rows there are below a place, at most what 64 bits hold.
+    /// Returns the number of rows below a node, at most 2^64 - 1.
     pub(crate) fn count_of(&self, node: &Node) -> u64
         requires { self.now.counts_hold ≡ true → is_counted node.now ≡ true }
         ensures { result ≡ min (rows_in (seen node.now)) (2 ^ 64 - 1) }
@@ -91,7 +92,7 @@ impl Stemmed {
         }
     }
 
-    // Makes a key one that is under the stem, and the counts right.
+    // Makes the stem one that the key is under, and makes the counts right.
     #[inline(always)]
     fn open_to(&mut self, key: u64) -> Result<(), AllocError>
         ensures whole { whole self.new ≡ whole self.old }
@@ -105,7 +106,7 @@ impl Stemmed {
         self.open(key)
     }
 
-    // The same where it isn't so yet. It stays out of the changes, which seldom need it.
+    // The same if there is something to do. It is apart from the changes, which seldom need it.
     #[inline(never)]
     fn open(&mut self, key: u64) -> Result<(), AllocError>
         ensures whole { whole self.new ≡ whole self.old }
@@ -134,7 +135,7 @@ impl Stemmed {
         Ok(())
     }
 
-    // Puts pairs in the place of the stem.
+    // Replaces the stem by pairs.
     fn unwind(&mut self) -> Result<(), AllocError>
         requires { self.old.counts_hold ≡ true }
         ensures whole { whole self.new ≡ whole self.old }
@@ -148,8 +149,9 @@ impl Stemmed {
         Ok(())
     }
 
-    // Lengthens the stem to where the trie branches, if many changes in turn could have: between a change far off and the next one a
-    // stem would be made and undone each time. For want of memory it stays as it is.
+    // Lengthens the stem to the first branch, after many changes in sequence that could have. Else a stem would be
+    // built and undone each time, if changes far off alternate with near ones. If memory runs out, the stem is
+    // unchanged.
     #[inline(always)]
     fn wind(&mut self)
         ensures { whole self.new ≡ whole self.old }
@@ -159,8 +161,8 @@ impl Stemmed {
         }
     }
 
-    // The same where the root has a leaf for a half, which may be one without rows, or where counts are wrong, which it makes right first.
-    // A trie of many leaves seldom has such a root, and a change that fails is as rare.
+    // The same for a root with a leaf half, which may be without rows. If counts are wrong, it only makes them right. A
+    // trie of many leaves seldom has such a root, and a change seldom fails.
     #[inline(never)]
     fn rewind(&mut self)
         ensures { whole self.new ≡ whole self.old }
@@ -192,7 +194,7 @@ impl Stemmed {
         Ok(())
     }
 
-    /// Puts a bucket where a key leads to, once the step has succeeded.
+    /// Replaces the bucket to which a key leads, once the step has succeeded.
     pub(crate) fn put<C: Commit>(
         &mut self,
         key: u64,
@@ -213,7 +215,7 @@ impl Stemmed {
         done
     }
 
-    /// Puts two leaves in the place of the one that a key leads to, once the step has succeeded.
+    /// Replaces the leaf to which a key leads by two leaves, once the step has succeeded.
     pub(crate) fn divide<C: Commit>(
         &mut self,
         key: u64,
@@ -236,7 +238,7 @@ impl Stemmed {
         done
     }
 
-    /// Adds a row to the leaf of its key, once the step has succeeded, and answers how many rows are there then.
+    /// Adds a row to the leaf of its key, once the step has succeeded, and returns the new number of rows in this leaf.
     pub(crate) fn put_row<C: Commit>(
         &mut self,
         change: &RowChange,
@@ -262,7 +264,7 @@ impl Stemmed {
         to.ended
     }
 
-    /// Takes a row out of the leaf of its key, once the step has succeeded.
+    /// Removes a row from the leaf of its key, once the step has succeeded.
     pub(crate) fn take_row<C: Commit>(
         &mut self,
         change: &RowChange,
@@ -287,7 +289,8 @@ impl Stemmed {
         from.ended
     }
 
-    /// Takes a row out and adds another one, once the step has succeeded, and answers how many rows are then where that one is.
+    /// Removes a row and adds another one, once the step has succeeded. Returns the new number of rows in the leaf of
+    /// the added row.
     pub(crate) fn shift_row<C: Commit>(
         &mut self,
         from: &RowChange,

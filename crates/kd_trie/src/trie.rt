@@ -1,4 +1,4 @@
-//! The trie: nodes under one stem, with leaves that tile the key space.
+//! The trie: nodes below one stem. Its leaves tile the key space.
 ghost use Rattle.std.specs.Prelude.{◌≡◌, ◌≤◌, ◌⊎◌, []};
 ghost use Rattle.index_layer.specs.Leaves.{AreLeaves, has_name};
 ghost use Rattle.index_layer.specs.LeavesProp.{AreLeaves-prop};
@@ -16,9 +16,10 @@ use std::alloc::Global;
 use std::sync::Arc;
 use zorder::{Memory, Name, first_bits};
 
-/// Leaves whose names tile the key space, under nodes that tries share.
+/// Leaves whose names tile the key space, below nodes that tries share.
 ///
-/// A node that another trie can reach is never written: a change first makes the path to its leaf this trie's own.
+/// A change never writes to a node that another trie can reach. It first copies the shared nodes on the path to its
+/// leaf.
 #[derive(Drop)]
 pub struct KdTrie {
     tree: Stemmed,
@@ -27,7 +28,7 @@ pub struct KdTrie {
 }
 
 impl KdTrie {
-    // Whether a leaf has this name.
+    // Returns whether a leaf has this name.
     fn has_leaf(&self, name: &Name) -> bool
         ensures { result ≡ has_name name.now (leaves_under [] (whole self.now.tree)) }
     {
@@ -76,7 +77,7 @@ impl Index for KdTrie {
     fn below<'a>(&'a self, name: &Name, place: &'a Node) -> Below<'a, Node> {
         let tree = &self.tree;
         if let Some(side) = tree.stem.side_past(name) {
-            // The names alone tell where a walk along the stem stands: the root stands in for a place there.
+            // Along the stem, the name alone says where a walk is. The root is the place for all steps of the stem.
             return if side.bit {
                 Below::Halves {
                     zero: &side.node,
@@ -107,7 +108,7 @@ impl Index for KdTrie {
 
     fn narrow<'a>(&'a self, name: Name, place: &'a Node) -> (Name, &'a Node) {
         let tree = &self.tree;
-        // Beside a stem there are no rows, so a walk may begin where it ends.
+        // There are no rows next to the stem, so a walk may begin at its end.
         if goes_on(&name, &tree.stem.name) {
             narrowed(tree.stem.name, &tree.root)
         } else {
@@ -117,7 +118,7 @@ impl Index for KdTrie {
 
     fn count_below(&self, name: &Name, place: &Node) -> u64 {
         let tree = &self.tree;
-        // Beside a stem there are no rows.
+        // There are no rows next to the stem.
         if goes_on(name, &tree.stem.name) {
             tree.count_of(&tree.root)
         } else {

@@ -91,13 +91,13 @@ module _ (w : ℕ) (s : State) (h : List Entry) (e : Entry) (cell : Cell) (next 
 
     module _ (any_moment : LeavesOnly d0 d1 (HoldsEither w (first ++ cells_of s.world h) cell)) where
       pub either-kept : LeavesOnly d0 d1 (RecoversEither w (first ++ cells_of s.world h) cell)
-      either-kept = either_since w first s.world h e cell start.clock d0 d1 kept.later none_lost legal_with kept.history any_moment
+      either-kept = either_since w first s.world h (cell ∷ []) start.clock d0 d1 kept.later none_lost legal_with kept.history any_moment
 
       pub since-added : IsLog w ((first ++ cells_of s.world h) ++ cell ∷ []) d1 → KeepsSince w first s (h ++ e ∷ []) start d1 None
       since-added log = record {
         opening = kept.opening;
         later = omega (arith, kept.later, any_moment.later);
-        history = kept_added w first s.world h e cell start.clock d0 d1 kept.later none_lost legal_with kept.history any_moment (h ++ e ∷ [])
+        history = kept_added w first s.world h (cell ∷ []) start.clock d0 d1 kept.later none_lost legal_with kept.history any_moment (h ++ e ∷ [])
             (ap (λ l. cells_of s.world (h ++ e ∷ []) ++ l) (failed_cells-append h (e ∷ []) sound ∙ lost_none (world_after s.world h) e cell next.cells)
             ∙ append-nil (cells_of s.world (h ++ e ∷ [])) ∙ cells_with)
             cells_with
@@ -114,7 +114,7 @@ module _ (w : ℕ) (s : State) (h : List Entry) (e : Entry) (cell : Cell) (next 
           record {
             opening = kept.opening;
             later = omega (arith, kept.later, any_moment.later);
-            history = kept_failed w first s.world h e cell start.clock d0 d1 kept.later none_lost legal_with kept.history any_moment (h ++ Fail number lost ∷ [])
+            history = kept_failed w first s.world h (cell ∷ []) start.clock d0 d1 kept.later none_lost legal_with kept.history any_moment (h ++ Fail number lost ∷ [])
                 (λ i. same i ++ (failed_cells-append h (Fail number lost ∷ []) sound ∙ one) i)
                 same number now;
             newest = λ here. newest-later w (first ++ cells_of s.world h) cell start.clock d0 d1 kept.later any_moment (kept.newest here);

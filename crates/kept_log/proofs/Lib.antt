@@ -4,3 +4,5 @@ pub mod Adding
 pub mod Appending
 pub mod InJournal
 pub mod Renewing
+pub mod Batches
+pub mod BatchLemmas

@@ -1,5 +1,5 @@
 -- What the log of a store that may have none keeps.
-use Rattle.std.specs.Prelude.{◌≡◌, ◌⊎◌, ℕ, ◌+◌, ◌≤◌, Bool, true, false, List, [], ◌∷◌, ◌++◌, replicate, Option, Some, None, is_some, ⊤}
+use Rattle.std.specs.Prelude.{◌≡◌, ◌⊎◌, ℕ, ◌+◌, ◌≤◌, Bool, true, false, List, [], ◌∷◌, ◌++◌, length, replicate, Option, Some, None, is_some, ⊤}
 use Rattle.causes.specs.Causes.{Rose}
 use Rattle.cell_format.specs.declared.cell.Cell.{Cell}
 use Rattle.plain_list.specs.declared.entries.Entry.{Entry}
@@ -9,14 +9,17 @@ use Rattle.plain_list.specs.World.{World}
 use Rattle.plain_list.specs.State.{State}
 pub use Rattle.plain_list.specs.History.{failed_cell}
 use Rattle.disk_trait.specs.Drive.{Drive, Made, SameFile}
-use Rattle.disk_trait.specs.Moments.{LeavesOnly}
+use Rattle.disk_trait.specs.Moments.{LeavesOnly, LeavesNow}
 use Rattle.log_state.specs.Recovers.{Recovers}
 use Rattle.log_state.specs.Changes.{cells_of, lost_cells}
 use Rattle.recovery.specs.Calls.{AllWentWell, EndsAtFault}
 use Rattle.kept_log.specs.KeptView.{KeptView, kept_view}
 use Rattle.kept_log.specs.Kept.{StartsWith, RecoversTo, Keeps}
 use Rattle.split_log.specs.LogView.{LogView, most_cells}
-use Rattle.kept_log.specs.Steps.{IsNext, IsSince}
+use Rattle.split_log.specs.Append.{calls_to_add}
+use Rattle.kept_log.specs.declared.journal.AppendAllLost.{AppendAllLost}
+use Rattle.kept_log.specs.declared.journal.AppendAllLost.TheVariants.{Disk, Memory}
+use Rattle.kept_log.specs.Steps.{IsNext, AreNext, IsSince}
 
 -- how many cells there are: none without a log
 abbrev pub cells_in : {D : Type 0} → Option (KeptView D) → ℕ
@@ -121,3 +124,52 @@ LeavesEither drive w s h e _ _ = ⊤
 abbrev pub LeavesNext : {D : Type 0} → (D → Drive) → Cell → Option (KeptView D) → Option (KeptView D) → Type 0
 LeavesNext drive cell old new =
     (w : ℕ) (s : State) (h : List Entry) (e : Entry) → IsNext w s h e cell → KeepsIn drive w s h old → LeavesEither drive w s h e old new
+
+-- an image recovers to the cells of a history behind the first ones, or to these and those of all of some entries more
+abbrev pub RecoversWithAll : ℕ → List Cell → World → List Entry → List Entry → List ℕ → Type 0
+RecoversWithAll w first world h es image = Recovers w (first ++ cells_of world h) image ⊎ Recovers w (first ++ cells_of world (h ++ es)) image
+
+-- At every moment of a stretch a crash leaves the cells of the history, or these and those of all the entries, where it is known what stood first.
+abbrev pub LeavesAllOrNone : {D : Type 0} → (D → Drive) → ℕ → State → List Entry → List Entry → Option (KeptView D) → Option (KeptView D) → Type 0
+LeavesAllOrNone drive w s h es (Some old) (Some new) =
+    (first : List Cell) → StartsWith w first (drive old.start) → LeavesOnly (drive old.disk) (drive new.disk) (RecoversWithAll w first s.world h es)
+LeavesAllOrNone drive w s h es _ _ = ⊤
+
+-- it does so in an append of cells, for each history that is kept and all entries that the cells are of
+abbrev pub LeavesNextAll : {D : Type 0} → (D → Drive) → List Cell → Option (KeptView D) → Option (KeptView D) → Type 0
+LeavesNextAll drive more old new =
+    (w : ℕ) (s : State) (h es : List Entry) → AreNext w s h es more → KeepsIn drive w s h old → LeavesAllOrNone drive w s h es old new
+
+-- the cells were added, by four calls where there is a log and a cell, and the history with all entries that the cells are of is kept
+pub record AddedAll {D : Type 0} (drive : D → Drive) (more : List Cell) (old new : Option (KeptView D)) : Type 0 where
+  pub count : cells_in new ≤ cells_in old + length more
+  pub calls : MadeIn drive (replicate (calls_to_add more) true) old new
+  pub keeps : (w : ℕ) (s : State) (h es : List Entry) → AreNext w s h es more → KeepsIn drive w s h old → KeepsIn drive w s (h ++ es) new
+
+-- How an append of cells stopped at a fault: some of its four calls went well, the next one failed, and none was made after it. Where the first
+-- write or the first sync failed, none of the new cells is in an image.
+pub record AllBreakIn {D : Type 0} (drive : D → Drive) (more : List Cell) (old new : Option (KeptView D)) : Type 0 where
+  pub went_well : ℕ
+  pub few : went_well ≤ 3
+  pub calls : MadeIn drive (replicate went_well true ++ false ∷ []) old new
+  pub unstaged : went_well ≤ 1 → (w : ℕ) (s : State) (h es : List Entry) → AreNext w s h es more → KeepsIn drive w s h old → LeavesAlone drive w s h old new
+
+-- A crash now leaves the cells of the history, or these and those of all the entries, where it is known what stood first.
+abbrev pub LeavesNowAllOrNone : {D : Type 0} → (D → Drive) → ℕ → State → List Entry → List Entry → Option (KeptView D) → Option (KeptView D) → Type 0
+LeavesNowAllOrNone drive w s h es (Some old) (Some new) =
+    (first : List Cell) → StartsWith w first (drive old.start) → LeavesNow (drive new.disk) (RecoversWithAll w first s.world h es)
+LeavesNowAllOrNone drive w s h es _ _ = ⊤
+
+-- a device call failed while the cells were added, of which the first has this number, and the log takes no more
+pub record AllMissed {D : Type 0} (drive : D → Drive) (more : List Cell) (number : ℕ) (old new : Option (KeptView D)) : Type 0 where
+  pub named : number ≡ cells_in old
+  pub count : cells_in new ≡ cells_in old
+  pub closed : failed_in new ≡ Some number
+  pub rose : RoseIn drive old new
+  pub breaks : AllBreakIn drive more old new
+  pub leaves : (w : ℕ) (s : State) (h es : List Entry) → AreNext w s h es more → KeepsIn drive w s h old → LeavesNowAllOrNone drive w s h es old new
+
+-- why cells weren't added: the drive failed, or there was no memory, and then nothing was touched
+abbrev pub NotAdded : {D : Type 0} → (D → Drive) → List Cell → AppendAllLost → Option (KeptView D) → Option (KeptView D) → Type 0
+NotAdded drive more (Disk number) old new = AllMissed drive more number old new
+NotAdded drive more Memory old new = new ≡ old

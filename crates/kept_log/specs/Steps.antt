@@ -1,8 +1,8 @@
 -- What comes next in what a log has kept.
-use Rattle.std.specs.Prelude.{◌≡◌, ℕ, List, [], ◌∷◌, ◌++◌}
+use Rattle.std.specs.Prelude.{◌≡◌, ℕ, List, [], ◌∷◌, ◌++◌, None}
 use Rattle.cell_format.specs.declared.cell.Cell.{Cell}
 use Rattle.plain_list.specs.declared.entries.Entry.{Entry}
-use Rattle.plain_list.specs.History.{world_after}
+use Rattle.plain_list.specs.History.{world_after, failed_cell}
 use Rattle.plain_list.specs.State.{State, IsLegal}
 use Rattle.log_state.specs.Changes.{cells_of}
 use Rattle.kept_log.specs.KeptView.{KeptView}
@@ -11,6 +11,12 @@ use Rattle.kept_log.specs.KeptView.{KeptView}
 pub record IsNext (w : ℕ) (s : State) (h : List Entry) (e : Entry) (cell : Cell) : Type 0 where
   pub legal : IsLegal w s (h ++ e ∷ [])
   pub cells : cells_of (world_after s.world h) (e ∷ []) ≡ cell ∷ []
+
+-- the entries may come next in the history, in this order, no append failed among them, and the cells are theirs
+pub record AreNext (w : ℕ) (s : State) (h es : List Entry) (more : List Cell) : Type 0 where
+  pub legal : IsLegal w s (h ++ es)
+  pub sound : failed_cell es ≡ None
+  pub cells : cells_of (world_after s.world h) es ≡ more
 
 -- the same opening
 pub record IsSince {D : Type 0} (old new : KeptView D) : Type 0 where

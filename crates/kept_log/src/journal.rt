@@ -1,5 +1,5 @@
 //! The log of a store that may have none, and what it has kept since it was opened.
-ghost use Rattle.std.specs.Prelude.{◌≡◌, ◌≤◌, ◌<◌, ◌==◌, ℕ, List, [], Some, None, is_some, OnOk, IfErr};
+ghost use Rattle.std.specs.Prelude.{◌≡◌, ◌≤◌, ◌<◌, ◌+◌, ◌==◌, ℕ, List, [], Some, None, is_some, length, OnOk, IfErr};
 ghost use Rattle.std.specs.Option.{option_map};
 ghost use Rattle.plain_list.specs.declared.entries.Entry.{Entry};
 ghost use Rattle.plain_list.specs.State.{State, IsLegal};
@@ -7,11 +7,12 @@ ghost use Rattle.split_log.specs.LogView.{most_cells};
 ghost use Rattle.kept_log.specs.Kept.{IsOpened, renewed_state};
 ghost use Rattle.kept_log.specs.KeptView.{renewed_log};
 ghost use Rattle.kept_log.specs.Steps.{IsSince};
-ghost use Rattle.kept_log.specs.Journal.{cells_in, failed_in, disk_in, log_in, KeepsIn, IsSinceIn, Added, Missed, LeavesNext};
+ghost use Rattle.kept_log.specs.Journal.{cells_in, failed_in, disk_in, log_in, KeepsIn, IsSinceIn, Added, Missed, LeavesNext, AddedAll, NotAdded, LeavesNextAll};
 
 use cell_format::Cell;
 use disk_trait::LogDisk;
-use split_log::{AppendFault, MOST_CELLS, SplitLog};
+use split_log::{AppendAllFault, AppendFault, MOST_CELLS, SplitLog};
+use std::alloc::Global;
 use std::marker::Model;
 use std::snapshot::Snapshot;
 
@@ -51,6 +52,15 @@ impl<D: LogDisk> Model for Kept<D> {
 #[derive(Clone, Copy, Debug, PartialEq, Eq)]
 pub struct AppendLost {
     pub cell: u64,
+}
+
+/// Why a batch of cells was not added.
+#[derive(Clone, Copy, Debug, PartialEq, Eq)]
+pub enum AppendAllLost {
+    /// A device call failed. A crash leaves all cells of the batch or none, and this is the first of them.
+    Disk { cell: u64 },
+    /// There was no memory for the text of the cells. No device call was made.
+    Memory,
 }
 
 impl<D: LogDisk> Journal<D> {
@@ -125,6 +135,22 @@ impl<D: LogDisk> Journal<D> {
         kept.append(cell)
     }
 
+    /// Adds a batch of cells, if there is a log. A crash leaves all of them or none. After a disk fault the log takes no more.
+    pub fn append_all(&mut self, alloc: Global, cells: &[Cell]) -> Result<(), AppendAllLost>
+        requires open { failed_in self.old ≡ None }
+        requires room { cells_in self.old + length cells.now ≤ most_cells }
+
+        ensures ok { OnOk result (AddedAll D.drive cells.now self.old self.new) }
+        ensures lost { IfErr result (λ e. NotAdded D.drive cells.now e self.old self.new) }
+        ensures any_moment { LeavesNextAll D.drive cells.now self.old self.new }
+        ensures since { IsSinceIn self.old self.new }
+    {
+        let Some(kept) = &mut self.log else {
+            return Ok(());
+        };
+        kept.append_all(alloc, cells)
+    }
+
     /// Goes on from where the log stands, as if it was opened there: what it has kept so far is what stood first. No device call is made.
     pub fn renew(&mut self)
         requires open { failed_in self.old ≡ None }
@@ -173,6 +199,23 @@ impl<D: LogDisk> Kept<D> {
             Ok(()) => Ok(()),
             Err(AppendFault::Disk { cell: number }) => Err(AppendLost { cell: number }),
             Err(AppendFault::LogFull) => unreachable!(),
+        }
+    }
+
+    fn append_all(&mut self, alloc: Global, cells: &[Cell]) -> Result<(), AppendAllLost>
+        requires open { self.old.failed ≡ None }
+        requires room { self.old.cells + length cells.now ≤ most_cells }
+
+        ensures ok { OnOk result (AddedAll D.drive cells.now (Some self.old) (Some self.new)) }
+        ensures lost { IfErr result (λ e. NotAdded D.drive cells.now e (Some self.old) (Some self.new)) }
+        ensures any_moment { LeavesNextAll D.drive cells.now (Some self.old) (Some self.new) }
+        ensures since { IsSince self.old self.new }
+    {
+        match self.log.append_all(alloc, cells) {
+            Ok(()) => Ok(()),
+            Err(AppendAllFault::Disk { cell: number }) => Err(AppendAllLost::Disk { cell: number }),
+            Err(AppendAllFault::Memory) => Err(AppendAllLost::Memory),
+            Err(AppendAllFault::LogFull) => unreachable!(),
         }
     }
 

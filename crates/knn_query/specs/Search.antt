@@ -1,4 +1,4 @@
--- Where a best-first search stands.
+-- The state of a best-first search.
 use Rattle.std.specs.Prelude.{◌≡◌, ◌⊎◌, ◌≤◌, ◌<◌, ◌+◌, ◌∷◌, ◌++◌, [], ℕ, Bool, true, false, nat_le, List, Option, Some, None, length}
 use Rattle.std.specs.Arc.{arc_value}
 use Rattle.std.specs.declared.sync.Arc.{Arc}
@@ -18,22 +18,22 @@ use Rattle.knn_query.specs.declared.ahead.Ahead.{Ahead}
 use Rattle.knn_query.specs.declared.ahead.Waiting.{Waiting}
 use Rattle.knn_query.specs.declared.kept.Kept.{Kept}
 
--- every leaf, and those of which some point may be as near
+-- all names (every), and names whose region may have a point within this squared distance (within)
 abbrev pub every : List Bool → Bool
 every name = true
 
 abbrev pub within : Point → ℕ → List Bool → Bool
 within p reach name = nat_le (least_to p name) reach
 
--- no more of the leaves were opened than those that aren't left
+-- of the leaves that pass the test, at most those that are not left were opened
 abbrev pub Counts : List Leaf → ℕ → (List Bool → Bool) → ℕ → List Leaf → Type 0
 Counts leaves before passes now left = now + length (leaves_of passes left) ≤ before + length (leaves_of passes leaves)
 
--- of places with k objects, by the distance of the k-th
+-- the same for the leaves that may have a point as near as the k-th object, if there are k objects
 abbrev pub CountsNear : Point → ℕ → List Leaf → ℕ → ℕ → List Leaf → Type 0
 CountsNear p k leaves before now left = OfPlaces leaves (λ places. (d : _) → k ≤ length places → Counts leaves before (within p (reach_of p k places d)) now left)
 
--- with so many steps before and now, these are ahead, and these kept
+-- the state after `now` steps: the unopened subtrees, and the kept objects
 pub record State (p : Point) (k : ℕ) (leaves : List Leaf) (before now : ℕ) (ahead : List Ahead) (kept : Kept) : Type 0 where
   pub from : kept.from ≡ p
   pub k_is : kept.k ≡ k
@@ -44,7 +44,7 @@ pub record State (p : Point) (k : ℕ) (leaves : List Leaf) (before now : ℕ) (
   pub near : CountsNear p k leaves before now (leaves_ahead leaves ahead)
   pub some : now ≡ before → held kept ≡ []
 
--- fewer than k of those that are kept are nearer than this subtree, and none of those that wait is
+-- fewer than k kept objects are nearer than this subtree, and no waiting subtree is nearer
 pub record IsWanted (kept : Kept) (a : Ahead) (waiting : List Ahead) : Type 0 where
   pub is_held : IsHeld kept
   pub some : 1 ≤ kept.k
@@ -52,7 +52,8 @@ pub record IsWanted (kept : Kept) (a : Ahead) (waiting : List Ahead) : Type 0 wh
   pub low : All (λ (b : Ahead). a.least.0 ≤ b.least.0) waiting
   pub few : number_nearer kept.from a.least.0 (held kept) < kept.k
 
--- of what was ahead there are a leaf with this bucket, which is wanted, and these that wait; what else there was has none of the nearest
+-- of the unopened subtrees, a leaf with this bucket and those in `new` are left; the rest has none of the nearest
+-- objects
 pub record LeadsTo (leaves : List Leaf) (b : Rows) (kept : Kept) (old new : List Ahead) : Type 0 where
   pub leaf : Ahead
   pub found : leaf_named leaf.name leaves ≡ Some (record { name = leaf.name; bucket = b })
@@ -60,17 +61,17 @@ pub record LeadsTo (leaves : List Leaf) (b : Rows) (kept : Kept) (old new : List
   pub less : sum_by weight_of new < sum_by weight_of old
   pub state : (p : Point) (k before now : ℕ) → State p k leaves before now old kept → State p k leaves before now (leaf ∷ new) kept
 
--- of what was ahead these wait; what else there was has none of the nearest
+-- of the unopened subtrees, those in `new` are left; the rest has none of the nearest objects
 pub record LeadsNowhere (leaves : List Leaf) (kept : Kept) (old new : List Ahead) : Type 0 where
   pub less : sum_by weight_of new < sum_by weight_of old
   pub state : (p : Point) (k before now : ℕ) → State p k leaves before now old kept → State p k leaves before now new kept
 
--- the bucket of a leaf, or none
+-- Some: the search comes to a leaf with this bucket. None: it comes to no leaf.
 abbrev pub Leads : {Z : Type 0} → List Leaf → Kept → List Ahead → List Ahead → Option (Region × Bor (Arc Rows Z)) → Type 0
 Leads leaves kept old new None = LeadsNowhere leaves kept old new
 Leads leaves kept old new (Some found) = LeadsTo leaves (arc_value found.1.now) kept old new
 
--- two halves at these places, the nearer first, which is as near as both
+-- the two halves at these places, the nearer first; the nearer half is as near as the whole
 pub record AreHalves {P : Type 0} (p : Point) (a : Ahead) (zero one : P) (near far : Waiting P) : Type 0 where
   pub fore : Ahead
   pub hind : Ahead
@@ -81,6 +82,6 @@ pub record AreHalves {P : Type 0} (p : Point) (a : Ahead) (zero one : P) (near f
   pub order : IsOrder (waiting_at fore zero) (waiting_at hind one) near far
   pub as_near : near.ahead.least.0 ≤ a.least.0
 
--- a subtree waits too, or k of those that are kept are nearer
+-- either the subtree waits too, or k kept objects are nearer
 abbrev pub IsPutOrOut : {P : Type 0} → Kept → Waiting P → List (Waiting P) → List (Waiting P) → Type 0
 IsPutOrOut kept far old new = IsPermutation (far ∷ old) new ⊎ ((new ≡ old) × (kept.k ≤ number_nearer kept.from far.ahead.least.0 (held kept)))

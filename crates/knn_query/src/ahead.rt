@@ -1,4 +1,4 @@
-//! Subtrees that are still ahead of a search, the nearest of them first out of a heap.
+//! The subtrees that a search has not opened yet. A heap returns the nearest of them first.
 ghost use Rattle.std.specs.Prelude.{◌≡◌, ◌<◌, ◌∷◌, ◌++◌, [], false, true, length, MatchOption};
 ghost use Rattle.std.specs.BinaryHeap.{heap_items, IsHeap};
 ghost use Rattle.prefix_names.specs.Regions.{region_of};
@@ -10,8 +10,8 @@ use std::cmp::Reverse;
 use std::collections::BinaryHeap;
 use zorder::{Name, Point, Region, child};
 
-/// A name whose subtree wasn't opened, its region, and the squared distance from which on there may be points in it. The nearer
-/// is the greater.
+/// A subtree that isn't opened yet: its name, its region, and the least squared distance of a point in the region. In
+/// the order of the heap, the nearer subtree is the greater one.
 #[derive(Clone, Copy, Drop)]
 #[derive_where(PartialEq, Eq, PartialOrd, Ord)]
 pub(crate) struct Ahead {
@@ -30,7 +30,7 @@ impl Ahead {
         Ahead::new(name, region(&name), from)
     }
 
-    /// The half of the lesser keys, and the other one.
+    /// Returns the halves for the next bit 0 and 1.
     pub(crate) fn halves(&self, from: Point) -> (Ahead, Ahead)
         requires room { length self.now.name < 64 }
         requires ahead { IsAhead from self.now }
@@ -56,7 +56,7 @@ impl Ahead {
     }
 }
 
-/// A subtree that is ahead, and its place in the index.
+/// A subtree that isn't opened yet, and its place in the index.
 #[derive(Drop)]
 #[derive_where(PartialEq, Eq, PartialOrd, Ord)]
 pub(crate) struct Waiting<P> {
@@ -65,7 +65,7 @@ pub(crate) struct Waiting<P> {
     pub(crate) place: P,
 }
 
-/// Takes the nearest out.
+/// Removes the nearest subtree from the heap and returns it.
 pub(crate) fn take_nearest<P: Drop>(waiting: &mut BinaryHeap<Waiting<P>>) -> Option<Waiting<P>>
     requires { IsHeap waiting_cmp (heap_items waiting.old) }
     ensures taken { MatchOption result (heap_items waiting.old ≡ []) (λ next. IsNearest next (heap_items waiting.old) (heap_items waiting.new)) }
@@ -74,7 +74,7 @@ pub(crate) fn take_nearest<P: Drop>(waiting: &mut BinaryHeap<Waiting<P>>) -> Opt
     waiting.pop()
 }
 
-/// Two subtrees, the nearer first.
+/// Returns two subtrees, the nearer first.
 pub(crate) fn by_distance<P: Drop>(one: Waiting<P>, two: Waiting<P>) -> (Waiting<P>, Waiting<P>)
     ensures { IsOrder one two result.0 result.1 }
 {

@@ -1,11 +1,11 @@
-//! Objects with their distance to a point.
+//! Objects with their squared distance to a point.
 ghost use Rattle.std.specs.Prelude.{◌≡◌};
 ghost use Rattle.knn_query.specs.Candidates.{object_of, IsMeasured};
 
 use prefix_names::dist;
 use zorder::{Placed, Point};
 
-/// An object and its squared distance, in the order of the answer: the nearer first, and of two as near the one with the lesser id.
+/// An object and its squared distance, ordered as in the answer: by distance, and at the same distance by id.
 #[derive(Clone, Copy, Drop)]
 #[derive_where(PartialEq, Eq, PartialOrd, Ord)]
 pub(crate) struct Candidate {
@@ -27,7 +27,8 @@ impl Candidate {
         }
     }
 
-    /// The distance in one word, or the greatest that this holds: two that differ in it are so in the order of the answer.
+    /// Returns the squared distance as one word, at most 2^64 - 1. If two of these words differ, they have the order of
+    /// the answer.
     pub(crate) fn roughly(&self) -> u64 {
         u64::try_from(self.distance).unwrap_or(u64::MAX)
     }

@@ -1,4 +1,4 @@
-//! The nearest of the objects that were seen so far.
+//! The nearest objects that a search has seen so far.
 ghost use Rattle.std.specs.Prelude.{◌≡◌, ◌≤◌, ◌<◌, ◌∷◌, nat_le, List, [], map, take, IfOk, OnOk, IfSome};
 ghost use Rattle.std.specs.BinaryHeap.{heap_items, IsHeap};
 ghost use Rattle.zorder.specs.declared.points.Placed.{Placed};
@@ -18,17 +18,17 @@ use std::alloc::{AllocError, Global};
 use std::collections::BinaryHeap;
 use zorder::{Placed, Point, Region, coordinates_fit};
 
-/// What became of an object.
+/// What `add` did with an object.
 pub(crate) enum Came {
-    /// It makes one more.
+    /// One object more is kept.
     More,
-    /// It stands in the place of the farthest.
+    /// The object replaced the farthest one.
     Instead,
-    /// `k` that are kept come before it.
+    /// It was not kept: `k` objects are kept that come before it.
     Beyond,
 }
 
-/// The `k` nearest of the objects that were added, or all where they are fewer, the farthest of them at the top.
+/// The `k` nearest of the objects that were added, or all if they are fewer. The farthest is at the top of the heap.
 #[derive(Drop)]
 pub(crate) struct Kept {
     pub(crate) from: Point,
@@ -47,7 +47,7 @@ impl Kept {
         })
     }
 
-    /// Adds an object, where it belongs to the nearest.
+    /// Adds an object if it is one of the `k` nearest so far.
     pub(crate) fn add(&mut self, one: Candidate) -> Result<Came, AllocError>
         requires held { IsHeld self.old }
         requires measured { IsMeasured self.old.from one }
@@ -65,7 +65,7 @@ impl Kept {
         }
     }
 
-    /// What objects of an area may still belong to the nearest.
+    /// Returns where objects of an area have to be to be among the nearest.
     pub(crate) fn reach(&self, area: &Region) -> Reach
         requires { IsHeld self.now }
         ensures { HasReach result self.now }
@@ -76,7 +76,7 @@ impl Kept {
         }
     }
 
-    /// A distance that no object is beyond which may still belong to the nearest.
+    /// Returns a squared distance. No object beyond it can be among the nearest.
     pub(crate) fn farthest(&self) -> u128
         requires { IsHeld self.now }
         ensures { (m : Placed) → IsPoint m.at → result < distance m.at self.now.from → IsOut self.now m }
@@ -88,7 +88,8 @@ impl Kept {
         }
     }
 
-    // A box that each such object of an area is in, where it leaves some of the area out.
+    // Returns a box around all objects of an area that can be among the nearest. It is `None` if the box leaves out no
+    // part of the area.
     fn corners(&self, area: &Region) -> Option<KeyBox>
         requires { IsHeld self.now }
         ensures { IfSome result (IsOutOf self.now) }
@@ -101,7 +102,7 @@ impl Kept {
         }
     }
 
-    /// Whether `k` of those that are kept are nearer than this.
+    /// Returns whether `k` of the kept objects are nearer than this squared distance.
     pub(crate) fn has_nearer(&self, least: u128) -> bool
         requires held { IsHeld self.now }
         requires some { 1 ≤ self.now.k }
@@ -113,20 +114,21 @@ impl Kept {
         }
     }
 
-    /// The nearest, in order.
+    /// Returns the nearest objects, in order.
     pub(crate) fn into_list(self, alloc: Global) -> Result<PlacedList, AllocError>
         requires { IsHeld self }
         ensures { (places : List Placed) → AreOf places (held self) → IfOk result (λ list. list ≡ take self.k (ranked self.from (held self))) }
     {
         let mut sorted = self.heap.into_vec();
-        // First by one word, which takes half the time that two do, and then only the order of those is mended that it doesn't tell apart.
+        // The first sort compares one word instead of two, which takes half the time. The second sort only reorders
+        // objects that are equal in this word.
         sorted.sort_unstable_by_key(|c| c.roughly());
         sorted.sort_unstable();
         Ok(PlacedList::from_vec(objects(alloc, &sorted)?))
     }
 }
 
-// Leaves the farthest out for a candidate that comes before it, if there is one.
+// Replaces the farthest candidate by `one`, if `one` comes before it. Returns whether it did.
 fn replace_farthest(heap: &mut BinaryHeap<Candidate>, one: Candidate) -> bool
     requires { IsHeap candidate_cmp (heap_items heap.old) }
     ensures { Replaces one (heap_items heap.old) (heap_items heap.new) result }

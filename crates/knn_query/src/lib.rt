@@ -1,11 +1,11 @@
-//! The objects nearest to a point, over any index.
+//! Nearest-neighbour queries over any index.
 //!
-//! Contracts see an index as its leaves. For the places that they stand for, `nearest` gives the first objects of their
-//! ranking: by squared distance, and at one distance by id. It takes subtrees by the least distance of their
-//! region (best first), and opens only leaves of which some point may be as near as the k-th object. Of the objects that it
-//! has seen it keeps the k nearest.
+//! Contracts see an index as its leaves, and speak of the objects that the leaves represent. `nearest` returns the
+//! first `k` objects of their ranking by squared distance, and at the same distance by id. It is a best-first search
+//! (Hjaltason and Samet): it takes subtrees by the least distance of their region. It opens only leaves whose region
+//! may have a point as near as the k-th object. Of the objects that it has seen, it keeps the `k` nearest.
 //!
-//! Not here: the ranking that it is compared with (`plain_list`).
+//! Not here: the ranking with which the contract compares the result (`plain_list`).
 #![tactic(auto)]
 
 mod ahead;

@@ -1,4 +1,4 @@
-//! Objects in the order of their distance to a point.
+//! The search for the nearest objects.
 ghost use Rattle.std.specs.Prelude.{◌≡◌, ◌≤◌, ◌<◌, ◌+◌, ◌∷◌, [], false, take, IfOk, OnOk, length};
 ghost use Rattle.plain_list.specs.Queries.{ranked};
 ghost use Rattle.table_share.specs.Objects.{objects_of, placed_of};
@@ -25,13 +25,13 @@ use step_count::Steps;
 use table_share::placed;
 use zorder::{Memory, Name, Point, Region};
 
-// As many subtrees as are mostly ahead at once.
+// The number of waiting subtrees for which memory is taken at the start. Mostly no more are waiting at once.
 const MANY_AHEAD: usize = 20;
 
-/// The first `k` objects, or all where there are fewer, the nearest first, and of two as near the one with the lesser id.
-/// Each bucket that it opens is a step. It is a best-first search (Hjaltason and Samet, "Distance Browsing in Spatial
-/// Databases", 1999): subtrees are taken by the least distance of their region, and it keeps at most `k` objects, each with its
-/// distance, in room that is taken at once.
+/// Returns the `k` nearest objects, or all if there are fewer. The nearest comes first, and at the same distance the
+/// lesser id. Each bucket that it opens is one step. It is a best-first search (Hjaltason and Samet, "Distance Browsing
+/// in Spatial Databases", 1999), which takes subtrees by the least distance of their region. It keeps at most `k`
+/// objects with their distances, in memory that it takes at the start.
 pub fn nearest<I: Index, L: Ledger>(
     alloc: Global,
     index: &I,
@@ -51,7 +51,7 @@ pub fn nearest<I: Index, L: Ledger>(
     Ok(kept.into_list(alloc)?)
 }
 
-// Places from the top, the nearest first, until k of those that are kept are nearer than any that is left.
+// Takes places from the top, the nearest first, until `k` of the kept objects are nearer than any place that is left.
 fn keep_nearest<I: Index, L: Ledger>(
     alloc: Global,
     mut kept: Kept,
@@ -82,7 +82,7 @@ fn keep_nearest<I: Index, L: Ledger>(
     Ok(kept)
 }
 
-// A heap of one, with room for as many as are mostly ahead at once.
+// Returns a heap with one subtree, and room for MANY_AHEAD.
 fn first_of_many<P: Drop>(
     alloc: Global,
     first: Waiting<P>,
@@ -95,7 +95,8 @@ fn first_of_many<P: Drop>(
     Ok(all)
 }
 
-// Goes down to a leaf that is as near as the subtree, unless nothing is there, and gives its region too. Of two halves one is so; the other one waits.
+// Goes down to a leaf that is as near as the subtree, and returns its region and bucket, or `None` if there are no
+// rows. Of two halves, one is as near, and the other one waits.
 fn nearest_leaf<'a, I: Index>(
     index: &'a I,
     first: Ahead,
@@ -127,7 +128,7 @@ fn nearest_leaf<'a, I: Index>(
     Ok(None)
 }
 
-// Two halves with their places, the nearer first.
+// Returns two halves with their places, the nearer first.
 #[inline(always)]
 fn halves_at<P: Drop>(ahead: &Ahead, from: Point, zero: P, one: P) -> (Waiting<P>, Waiting<P>)
     requires room { length ahead.now.name < 64 }
@@ -146,7 +147,7 @@ fn halves_at<P: Drop>(ahead: &Ahead, from: Point, zero: P, one: P) -> (Waiting<P
     by_distance(fore, hind)
 }
 
-// Puts a subtree among those that wait, unless k of those that are kept are nearer.
+// Adds a subtree to those that wait, unless `k` of the kept objects are nearer.
 #[inline(always)]
 fn put_far<P: Drop>(
     waiting: &mut BinaryHeap<Waiting<P>>,
@@ -165,7 +166,8 @@ fn put_far<P: Drop>(
     Ok(())
 }
 
-// Adds the objects of a bucket, whose points are in an area. Where one comes too late, so do those at its point that follow.
+// Adds the objects of a bucket, whose points are in an area. If one object is not kept, the later ones at its point
+// aren't either.
 fn add_rows<L: Ledger>(
     kept: &mut Kept,
     bucket: &Bucket,
@@ -186,8 +188,8 @@ fn add_rows<L: Ledger>(
     Ok(())
 }
 
-// Adds the object of a row, unless it is too far, and answers whether it was kept. Once there are enough the others need be near:
-// most that aren't so are known by their key alone.
+// Adds the object of a row unless it is too far, and returns whether it was kept. After `k` objects are kept, most rows
+// that are too far are recognized by their key alone.
 #[inline(always)]
 fn add_row(
     kept: &mut Kept,

@@ -1,4 +1,4 @@
-//! Where the nearest objects are.
+//! Where objects that can be among the nearest are.
 ghost use Rattle.std.specs.Prelude.{◌≡◌, ◌≤◌, ◌<◌, ◌+◌, ◌-◌, ◌*◌, ◌^◌, false, IfSome, IsTrue};
 ghost use Rattle.zorder.specs.declared.points.Point.{Point};
 ghost use Rattle.zorder.specs.Distance.{distance};
@@ -10,7 +10,7 @@ ghost use Rattle.knn_query.specs.Passes.{LeavesOut};
 use prefix_names::KeyBox;
 use zorder::{Point, Region, coordinates_fit};
 
-/// What an object need be to belong to the nearest still: its point is in a box, if there is one, and no farther than a distance.
+/// Where an object has to be to be among the nearest: in a box, if there is one, and not beyond a squared distance.
 #[derive(Clone, Copy)]
 pub(crate) struct Reach {
     pub(crate) corners: Option<KeyBox>,
@@ -18,7 +18,7 @@ pub(crate) struct Reach {
 }
 
 impl Reach {
-    /// Whether the box leaves the point of a key out.
+    /// Returns whether the point of a key is outside the box.
     pub(crate) fn leaves_out(&self, key: u64) -> bool
         ensures { IsTrue result → LeavesOut self.now key }
     {
@@ -29,7 +29,8 @@ impl Reach {
     }
 }
 
-/// A box around a point that has each point no farther from it than another one. It is mostly not much greater than it need be.
+/// Returns a box around `from` that has each point which is at most as far from it as `farthest`. Mostly it is little
+/// larger than necessary.
 pub(crate) fn box_within(from: Point, farthest: Point) -> Region
     ensures { (p : Point) → IsPoint p → has_point result p ≡ false → distance farthest from < distance p from }
 {
@@ -37,7 +38,7 @@ pub(crate) fn box_within(from: Point, farthest: Point) -> Region
     box_around(from, side)
 }
 
-/// A box by the keys of its corners, unless it has all of an area.
+/// Returns the box by the keys of its corners, or `None` if the box has the whole area.
 pub(crate) fn cutting(region: Region, area: &Region) -> Option<KeyBox>
     ensures { IfSome result (λ corners. box_of corners ≡ region) }
 {
@@ -48,7 +49,7 @@ pub(crate) fn cutting(region: Region, area: &Region) -> Option<KeyBox>
     }
 }
 
-// The box whose sides are as far from its middle.
+// Returns the box with each side at the distance `side` from `middle`, cut off at the ends of the plane.
 fn box_around(middle: Point, side: u32) -> Region
     ensures { (p : Point) → IsPoint p → has_point result p ≡ false → side * side < distance p middle × side < 2 ^ 32 - 1 }
 {
@@ -65,8 +66,8 @@ fn box_around(middle: Point, side: u32) -> Region
     }
 }
 
-// A number whose square is no less than the two squares together, by an eighth too great at most; the greatest of all where
-// there is none.
+// Returns a number whose square is at least the sum of both squares. The number is at most one eighth too great. If it
+// would not fit, the result is 2^32 - 1.
 fn longer(a: u32, b: u32) -> u32
     ensures { result < 2 ^ 32 - 1 → a * a + b * b ≤ result * result }
 {

@@ -5,7 +5,7 @@ use Rattle.plain_list.specs.declared.entries.Entry.{Entry}
 use Rattle.plain_list.specs.declared.entries.Entry.TheVariants.{Fail, Call, Begin, Install, Abandon}
 use Rattle.csv_rows.specs.declared.rows.InRow.{InRow}
 
--- the rows of a session with their numbers, the first of which is this
+-- the rows of a session with their numbers, if the first row has this number
 abbrev pub session_rows_from : ℕ → ℕ → List InRow → List (ℕ × Op)
 session_rows_from row s [] = []
 session_rows_from row s (r ∷ rows) = if r.session == s then (row, r.op) ∷ session_rows_from (row + 1) s rows else session_rows_from (row + 1) s rows
@@ -13,7 +13,7 @@ session_rows_from row s (r ∷ rows) = if r.session == s then (row, r.op) ∷ se
 abbrev pub session_rows : List InRow → ℕ → List (ℕ × Op)
 session_rows rows s = session_rows_from 1 s rows
 
--- the place of a row's call, where so many calls stand before
+-- the place of a row's call, if n calls come before this history
 abbrev pub row_place_from : ℕ → ℕ → List Entry → Option ℕ
 row_place_from n row [] = None
 row_place_from n row (Call session r op ∷ h) = if r == row then Some (n + 1) else row_place_from (n + 1) row h

@@ -1,8 +1,8 @@
-//! From lanes to one history: definitions and lemmas alone, which the top call cites.
+//! Definitions and lemmas that lead from lanes to one history. The top call cites them.
 //!
-//! Lanes were played over one store, each of them the rows of one session, and their passes were joined to one that ends with the whole
-//! history. Then the calls of each session in that history are a prefix of its rows, and what a lane has kept of a row is the place of its
-//! call there and the answer of one plain list at that place.
+//! They are about lanes that were played on one store, each with the rows of one session, and whose passes were joined
+//! to one with the whole history. The calls of each session in that history are a prefix of its rows. A row that a lane
+//! kept has the place of its call there, and the answer of the plain list at that place.
 //!
-//! Not here: how a lane is played (`sessions`), what its splits come to (`lane_splits`), and lines (`csv_rows`).
+//! Not here: how a lane is played (`sessions`), what its splits lead to (`lane_splits`), and lines (`csv_rows`).
 #![tactic(auto)]

@@ -1,4 +1,4 @@
--- What the splits of lanes come to.
+-- What the splits of lanes lead to.
 use Rattle.std.specs.Prelude.{◌≡◌, ◌⊎◌, ℕ, suc, ◌+◌, ◌<◌, ◌≤◌, ◌==◌, Bool, false, not, ◌||◌, List, [], ◌∷◌, length, if◌then◌else◌, Option, None}
 use mathlib.Core.List.{IsPrefix}
 use Rattle.std.specs.List.{list_any}
@@ -27,7 +27,8 @@ abandons number _ = false
 abbrev pub is_full_leaf : ℕ → ℕ → State → List Bool → Bool
 is_full_leaf w size s name = option_map_or (λ (leaf : List Bool). same_name leaf name) (full_leaf w size s) false
 
--- whether an entry begins a split that a later one abandons, or a split of another leaf than the first that is over the size
+-- whether an entry begins a split that is abandoned later, or a split of a leaf other than the first that is over the
+-- size
 abbrev pub is_stray : ℕ → ℕ → State → Entry → List Entry → Bool
 is_stray w size s (Begin number name) later = list_any (abandons number) later || not (is_full_leaf w size s name)
 is_stray w size s _ later = false
@@ -37,9 +38,9 @@ abbrev pub stray_begins : ℕ → ℕ → State → List Entry → ℕ
 stray_begins w size s [] = 0
 stray_begins w size s (e ∷ h) = if is_stray w size s e h then suc (stray_begins w size (step w s e) h) else stray_begins w size (step w s e) h
 
--- At the end no split is open, and no append has failed. No leaf that may be split has more points than the size, or there are more than
--- 4,000,000 entries or more than 16,000,000 cells. Stray begins are no more than the calls, so room is used up only by splits of leaves that
--- were over the size.
+-- At the end no split is open, and no append has failed. No leaf that can be split has more objects than the size, or
+-- there are more than 4,000,000 entries or 16,000,000 records. Stray begins are no more than the calls, so only splits
+-- of leaves over the size use up further room.
 pub record SplitsAreDone (w size : ℕ) (s : State) (first : Option ℕ) (h : List Entry) : Type 0 where
   pub ended : (state_after w s h).splits ≡ []
   pub going : failed_cell h ≡ None
@@ -52,15 +53,15 @@ begin_count [] = 0
 begin_count (Begin number name ∷ h) = suc (begin_count h)
 begin_count (_ ∷ h) = begin_count h
 
--- However rows end that were played, their history and its log stay below their limits. Stray begins are at most the calls and one. There are no
--- more begins than calls, or each row was called: before that no split at the end is begun.
+-- However the rows ended, their history and its log stay below their limits. Stray begins are at most one more than the
+-- calls. There are no more begins than calls, unless each row was called, since only then splits at the end begin.
 pub record IsWithinLimits (w size : ℕ) (s : State) (first : Option ℕ) (rows : List InRow) (h : List Entry) : Type 0 where
   pub entries : length h < most_events
   pub cells : count_after first s.world h < most_cells
   pub stray : stray_begins w size s h ≤ call_count h + 1
   pub begins : (begin_count h ≤ call_count h) ⊎ IsPlayedWhole (session_rows rows) h
 
--- each beginning of a history is shorter than a history may be, and so are the cells after it
+-- each prefix of a history is shorter than a history may be, and so are the records of the log after it
 pub record IsBounded (origin : Origin) (h : List Entry) : Type 0 where
   pub short : (g : List Entry) → IsPrefix g h → length g < most_events
   pub few : (g : List Entry) → IsPrefix g h → cells_at origin g < most_cells

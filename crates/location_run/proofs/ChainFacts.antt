@@ -14,7 +14,7 @@ use Rattle.log_state.specs.Changes.{cells_of}
 use Rattle.recovery.specs.LogText.{IsLog}
 use Rattle.recovery.specs.Found.{IsNewest}
 use Rattle.recovery.specs.Making.{IsSmall}
-use Rattle.recovery.specs.Widths.{IsWidth}
+use Rattle.zorder.specs.Width.{IsWidth}
 use Rattle.recovery.proofs.WidthLemmas.{recovers_width}
 use Rattle.command_words.specs.Words.{Command, Init, Check, Play, Show, Trial, Compact, Watch, Follow, AsksFor}
 use Rattle.command_words.proofs.WordsFacts.{init-width, one-command}

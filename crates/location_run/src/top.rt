@@ -23,14 +23,22 @@ use watch_run::watch_log;
 
 /// Runs the program: `words` are the command line without the program's name.
 ///
-/// The order of work, and of refusals, is for rows: words, source, length of the input, rows, then where there is a log its opening, then
-/// answers, each kept in the log before the next, and lines. The first line is written once all is there. For `init`, `check` and
-/// `show` it is: words, attach, making or inspecting, lines; for `trial`: words, making the rows, then as for rows; for `compact`: words,
-/// attach, inspecting, attach of the new file on the other drive, writing it, line. None of them reads the source. For `watch` it is: words,
-/// source, length of the input, fences, attach, width, walk, lines; for `follow`: words, source, length of the input, turns, attach, width
-/// and walk of the first file, attach and opening of the new one on the other drive, turns, lines. `check`, `show`, `compact`, `watch` and,
-/// in its first file, `follow` read a log of version 1 or 2; rows are played over one of version 2 alone. Each goes by the width that the
-/// log has.
+/// Each command checks the words first, then works in the order below, and ends at the first step that fails.
+/// - `play`: read the source, check its length, check the rows, open the log if there is one, answer the rows, write
+///   the lines. Each answer is kept in the log before the next one. The first line is written after all rows are
+///   answered.
+/// - `trial`: make the rows, and continue as `play` does after it has checked its rows.
+/// - `init`: attach the file, make the log, write the line.
+/// - `check` and `show`: attach the file, read the log, write the lines.
+/// - `compact`: attach the file, read the log, attach the new file on the other drive, write it, write the line.
+/// - `watch`: read the source, check its length, check the fences, attach the file, check the width, walk the log,
+///   write the lines.
+/// - `follow`: read the source, check its length, check the turns, attach the first file, check its width, walk it,
+///   attach and open the new file on the other drive, take the turns, write the lines.
+///
+/// Only `play`, `watch` and `follow` read the source. `check`, `show`, `compact`, `watch`, and `follow` in its first
+/// file, read logs of version 1 and 2. `play` and `trial` take only a log of version 2. Each command uses the width
+/// that the log has.
 pub fn run<R: Threads + Wait + Sync, S: Source, K: Sink, D: LogDisk + Send, G: Gate + Sync>(
     rt: &R,
     alloc: Global,
@@ -41,15 +49,15 @@ pub fn run<R: Threads + Wait + Sync, S: Source, K: Sink, D: LogDisk + Send, G: G
     other: D,
     gate: &G,
 ) -> Outcome<D>
-    // Words that ask for no command get status 2, and no others do.
+    // The status is 2 if and only if the words mean no command.
     ensures usage { AnswersUsage (map string_bytes words.now)
         (run_by S.input K.output D.drive source.old sink.old disk other source.new sink.new result) }
 
-    // The command that they ask for keeps its promise.
+    // The command that the words mean keeps its promise.
     ensures keeps { KeepsAsked (map string_bytes words.now)
         (run_by S.input K.output D.drive source.old sink.old disk other source.new sink.new result) }
 
-    // Over a log that stands it leaves one that stands, and so does a crash: what the next run asks for.
+    // On a standing log the run leaves a standing log, and so does a crash during it: the next run needs one.
     ensures chain { ChainsAsked (map string_bytes words.now)
         (run_by S.input K.output D.drive source.old sink.old disk other source.new sink.new result) }
 {
@@ -60,7 +68,7 @@ pub fn run<R: Threads + Wait + Sync, S: Source, K: Sink, D: LogDisk + Send, G: G
     }
 }
 
-// Does what some words ask for.
+// Executes the command of some words.
 fn obey<R: Threads + Wait + Sync, S: Source, K: Sink, D: LogDisk + Send, G: Gate + Sync>(
     rt: &R,
     alloc: Global,
@@ -85,7 +93,7 @@ fn obey<R: Threads + Wait + Sync, S: Source, K: Sink, D: LogDisk + Send, G: Gate
     }
 }
 
-// What a run leaves, of what its command gave back.
+// The outcome of a run, from what its command returned.
 fn outcome_of<D: LogDisk>(end: Ended<D>) -> Outcome<D>
     ensures outcome { result ≡ record { status = end.status; disk = end.drives.disk; other = end.drives.other; events = end.history } }
     ensures laws { KeepsLaws (D.drive end.drives.disk) × KeepsLaws (D.drive end.drives.other) }

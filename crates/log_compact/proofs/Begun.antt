@@ -10,7 +10,7 @@ use Rattle.plain_list.specs.State.{ComesBySplits}
 use Rattle.split_log.specs.LogText.{IsLog, IsLogOf, HoldsCells}
 use Rattle.split_log.specs.LogView.{most_cells}
 use Rattle.log_state.specs.Recovers.{Recovers, IsLegalCells}
-use Rattle.recovery.specs.Widths.{IsWidth}
+use Rattle.zorder.specs.Width.{IsWidth}
 use Rattle.recovery.specs.declared.seen.Seen.{Seen}
 use Rattle.recovery.proofs.HeadLemmas.{index_version}
 use Rattle.log_compact.specs.Fresh.{inner_names, fresh_cells}

@@ -17,7 +17,7 @@ use Rattle.plain_list.proofs.BySplits.{come-first, come-after}
 use Rattle.plain_list.proofs.Worlds.{length-with_member, length-with_moved}
 use Rattle.log_state.specs.Recovers.{entry_of, is_legal_cells, is_possible_cell, cells_after, state_of, IsLegalCells}
 use Rattle.log_compact.specs.Fresh.{split_cells, put_cells, fresh_cells, inner_names}
-use Rattle.recovery.specs.Widths.{IsWidth}
+use Rattle.zorder.specs.Width.{IsWidth}
 use Rattle.log_compact.proofs.Forest.{forest_of, length-one, length-two}
 use Rattle.log_compact.proofs.Inner.{inner_names-forest}
 

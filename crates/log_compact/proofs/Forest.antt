@@ -8,7 +8,7 @@ use Rattle.zorder.specs.Tile.{children}
 use Rattle.zorder.specs.Name.{first_key}
 use Rattle.zorder.proofs.Tiles.{first_left, first_right}
 use Rattle.plain_list.specs.State.{split_leaf, ComesBySplits}
-use Rattle.recovery.specs.Widths.{IsWidth}
+use Rattle.zorder.specs.Width.{IsWidth}
 use Rattle.log_compact.specs.Walk.{AreShort}
 use Rattle.log_compact.proofs.Order.{is_left, left-under}
 

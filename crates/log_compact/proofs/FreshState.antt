@@ -25,7 +25,7 @@ use Rattle.log_compact.specs.Fresh.{split_cells, put_cells, fresh_cells, inner_n
 use Rattle.log_compact.specs.Walk.{AreShort}
 use Rattle.log_compact.specs.State.{IsStateOf}
 use Rattle.log_compact.proofs.Order.{is_left, left-before, left-more, before-differ, all-append, all-weaken}
-use Rattle.recovery.specs.Widths.{IsWidth}
+use Rattle.zorder.specs.Width.{IsWidth}
 use Rattle.log_compact.proofs.Forest.{Forest, none, leaf, split, forest_of, ArePartedFrom, AreParted, IsChild, children_are, split-room}
 use Rattle.log_compact.proofs.Inner.{inner_names-forest, AreLeft, parted-children}
 

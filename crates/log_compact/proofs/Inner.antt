@@ -9,7 +9,7 @@ use Rattle.log_compact.specs.Fresh.{comes_before, with_name, prefixes_by, inner_
 use Rattle.plain_list.specs.State.{ComesBySplits}
 use Rattle.log_compact.specs.Walk.{new_names, all_new_names, AreShort}
 use Rattle.log_compact.proofs.Order.{is_left, left-before, left-more, before-more, before-under, all-append, all-weaken, AreBefore, AreRising, rising-push, IsAmong, among-push, among-last, with_name-last, with_names, with_names-among}
-use Rattle.recovery.specs.Widths.{IsWidth}
+use Rattle.zorder.specs.Width.{IsWidth}
 use Rattle.log_compact.proofs.Forest.{Forest, none, leaf, split, forest_of, IsChild, ArePartedFrom, AreParted, children_are, Leads, leads-split, split-room}
 use Rattle.log_compact.proofs.Prefixes.{is_aligned, aligned-child, prefixes_by-append, prefixes_by-child, later_prefixes, new_names-first, new_names-other}
 

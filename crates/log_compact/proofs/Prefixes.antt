@@ -9,7 +9,7 @@ use Rattle.zorder.specs.Name.{first_key}
 use Rattle.log_compact.specs.Fresh.{proper_prefixes, prefixes_by}
 use Rattle.log_compact.specs.Walk.{new_names}
 use Rattle.log_compact.proofs.Order.{all-append}
-use Rattle.recovery.specs.Widths.{IsWidth}
+use Rattle.zorder.specs.Width.{IsWidth}
 use Rattle.log_compact.proofs.Forest.{IsChild}
 
 under_both : (a : Bool) (name : List Bool) (names : List (List Bool)) → map (λ p. a ∷ p) (map (λ p. name ++ p) names) ≡ map (λ p. (a ∷ name) ++ p) names

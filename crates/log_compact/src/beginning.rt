@@ -1,5 +1,6 @@
 //! Begins a log with a world and its leaves.
 ghost use Rattle.std.specs.Prelude.{◌≡◌, ◌⊎◌, ◌<◌, None, length, IfOk, IfErr, MatchResult, MatchOption};
+ghost use Rattle.zorder.specs.Width.{IsWidth};
 ghost use Rattle.plain_list.specs.State.{ComesBySplits};
 ghost use Rattle.split_log.specs.LogView.{most_cells};
 ghost use Rattle.log_compact.specs.Fresh.{fresh_cells};
@@ -22,7 +23,7 @@ const NEWEST: u8 = 2;
 /// What whoever opens the log finds that `compact` writes of a world and its leaves. There is none where these are more cells than a log
 /// may have.
 pub fn fresh_seen(world: World, leaves: Leaves, width: u8) -> Option<Seen>
-    requires width { (width ≡ 1) ⊎ (width ≡ 2) }
+    requires width { IsWidth width }
     requires splits { ComesBySplits width leaves }
 
     ensures { MatchOption result (most_cells < length (fresh_cells width world leaves))
@@ -54,7 +55,7 @@ pub fn begin_log<D: LogDisk>(
     width: u8,
     target: D,
 ) -> Result<Opened<D>, CompactRefused<D>>
-    requires width { (width ≡ 1) ⊎ (width ≡ 2) }
+    requires width { IsWidth width }
     requires fresh { IsFresh width seen }
 
     ensures seen { IfOk result (λ o. o.seen ≡ seen) }

@@ -1,5 +1,6 @@
 //! How many cells a fresh log has.
 ghost use Rattle.std.specs.Prelude.{◌≡◌, ◌⊎◌, ◌<◌, ◌^◌, length};
+ghost use Rattle.zorder.specs.Width.{IsWidth};
 ghost use Rattle.log_compact.specs.Fresh.{fresh_cells};
 ghost use Rattle.plain_list.specs.State.{ComesBySplits};
 
@@ -8,7 +9,7 @@ use recovery::Seen;
 
 /// How many cells `compact` writes. It takes no memory.
 pub fn count_fresh(seen: &Seen, width: u8) -> u64
-    requires width { (width ≡ 1) ⊎ (width ≡ 2) }
+    requires width { IsWidth width }
     requires splits { ComesBySplits width seen.now.leaves }
     requires few { length (fresh_cells width seen.now.world seen.now.leaves) < 2 ^ 63 }
 

@@ -1,5 +1,6 @@
 //! The cells of a fresh log, one after the other.
 ghost use Rattle.std.specs.Prelude.{◌≡◌, ◌⊎◌, ◌<◌, ◌^◌, length};
+ghost use Rattle.zorder.specs.Width.{IsWidth};
 ghost use Rattle.log_compact.specs.Fresh.{fresh_cells};
 ghost use Rattle.plain_list.specs.State.{ComesBySplits};
 ghost use Rattle.log_compact.specs.State.{IsStateOf};
@@ -37,7 +38,7 @@ impl<'a> Model for FreshCells<'a> {
 
 impl<'a> FreshCells<'a> {
     pub(crate) fn of(seen: &'a Seen, width: u8) -> FreshCells<'a>
-        requires width { (width ≡ 1) ⊎ (width ≡ 2) }
+        requires width { IsWidth width }
         requires splits { ComesBySplits width seen.now.leaves }
         requires few { length (fresh_cells width seen.now.world seen.now.leaves) < 2 ^ 63 }
 

@@ -1,5 +1,6 @@
 //! Writes the state of a log anew.
 ghost use Rattle.std.specs.Prelude.{◌≡◌, ◌⊎◌, ◌≤◌, length, IfOk, IfErr, MatchResult};
+ghost use Rattle.zorder.specs.Width.{IsWidth};
 ghost use Rattle.split_log.specs.LogView.{most_cells};
 ghost use Rattle.log_compact.specs.Fresh.{fresh_cells};
 ghost use Rattle.plain_list.specs.State.{ComesBySplits};
@@ -45,7 +46,7 @@ impl From<InitFault> for CompactFault {
 /// Writes the state that was found in a log, of splits that make `2 ^ width` children, on a target that has at most 17 bytes. It takes no memory,
 /// and writes pieces of at most 64 KiB. A crash within it may leave a log of no cells with more than 17 bytes, which the next call finds in use.
 pub fn compact<D: LogDisk>(seen: &Seen, width: u8, target: D) -> Result<D, CompactRefused<D>>
-    requires width { (width ≡ 1) ⊎ (width ≡ 2) }
+    requires width { IsWidth width }
     requires splits { ComesBySplits width seen.now.leaves }
     requires few { length (fresh_cells width seen.now.world seen.now.leaves) ≤ most_cells }
 

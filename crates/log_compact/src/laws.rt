@@ -1,5 +1,6 @@
 //! What follows from types alone, or from what was found in a log.
 ghost use Rattle.std.specs.Prelude.{◌≡◌, ◌⊎◌, ◌≤◌, List, length};
+ghost use Rattle.zorder.specs.Width.{IsWidth};
 ghost use Rattle.cell_format.specs.declared.cell.Cell.{Cell};
 ghost use Rattle.log_state.specs.Recovers.{IsLegalCells};
 ghost use Rattle.recovery.specs.Found.{Finds};
@@ -12,7 +13,7 @@ use zorder::Name;
 
 /// What was found in a log may be written anew, with no more cells than that log has.
 pub fn fresh_cells_are_few(seen: &Seen, width: u8)
-    requires { (width ≡ 1) ⊎ (width ≡ 2) }
+    requires { IsWidth width }
 
     ensures splits { (cells : List Cell) → Finds width cells seen.now → ComesBySplits width seen.now.leaves }
     ensures few { (cells : List Cell) → IsLegalCells width cells → Finds width cells seen.now

@@ -7,7 +7,8 @@ use Rattle.cell_format.specs.declared.cell.Cell.{Cell}
 use Rattle.recovery.specs.Making.{Makes, IsSmall, KeepsSmall, RefusesInit}
 use Rattle.log_state.specs.Recovers.{Recovers}
 use Rattle.recovery.specs.Faults.{IsInBytes}
-use Rattle.recovery.specs.Widths.{IsWidth, IsLogFault}
+use Rattle.zorder.specs.Width.{IsWidth}
+use Rattle.recovery.specs.Widths.{IsLogFault}
 use Rattle.recovery.specs.declared.seen.SeenLog.{SeenLog}
 use Rattle.recovery.specs.Found.{IsFree, IsFound}
 use Rattle.recovery.specs.Reading.{IsBehind, OnlyReads}

@@ -6,7 +6,8 @@ use Rattle.disk_trait.specs.Drive.{Drive, AttachedOne, Stays}
 use Rattle.cell_format.specs.declared.cell.Cell.{Cell}
 use Rattle.log_state.specs.Recovers.{IsLegalCells, Recovers, state_of}
 use Rattle.recovery.specs.Faults.{IsInBytes}
-use Rattle.recovery.specs.Widths.{IsWidth, IsLogFault}
+use Rattle.zorder.specs.Width.{IsWidth}
+use Rattle.recovery.specs.Widths.{IsLogFault}
 use Rattle.recovery.specs.declared.seen.Seen.{Seen}
 use Rattle.recovery.specs.declared.seen.OpenFault.{OpenFault}
 use Rattle.run_ends.specs.declared.log_lines.LogCounts.{LogCounts}
@@ -22,54 +23,56 @@ use Rattle.run_ends.specs.Taking.{Refuses}
 use Rattle.run_ends.specs.Ending.{EndsWriting, EndsRefused}
 use Rattle.run_ends.specs.Attaching.{AttachesOnce}
 
--- why a log isn't told, of either version
+-- why a log isn't read; versions 1 and 2 are both read
 abbrev pub IsCheckingCause : Drive → Drive → Refusal → Type 0
 IsCheckingCause old new why = IsReadingCause oldest_read most_inspected old new why
 
--- legal cells of this width, few enough; where the drive's content is known, its bytes recover to them
+-- these are at most 16,777,216 legal records of this width; if the drive's content is known, its bytes recover to them
 pub record FindsCells (w : ℕ) (old : Drive) (cells : List Cell) : Type 0 where
   pub known : IsWidth w
   pub legal : IsLegalCells w cells
   pub few : length cells ≤ most_inspected
   pub recovers : (bytes : List ℕ) → old.bytes ≡ Some bytes → Recovers w cells bytes
 
--- how many cells there are, and objects, leaves and open splits in the state after them
+-- how many records there are, and how many objects, leaves and open splits the state after them has
 abbrev pub counts_after : ℕ → List Cell → LogCounts
 counts_after w cells =
     record { cells = length cells; points = length (state_of w cells).world; leaves = length (state_of w cells).leaves; unfinished = length (state_of w cells).splits }
 
--- how many of each were found
+-- the same counts, of what was found in a log
 abbrev pub counts_of : Seen → LogCounts
 counts_of seen = record { cells = seen.cells; points = length seen.world; leaves = length seen.leaves; unfinished = seen.unfinished }
 
--- the four lines of cells
+-- the text of `check` for these records
 abbrev pub checked_text : ℕ → List Cell → List ℕ
 checked_text w cells = counts_text (counts_after w cells)
 
--- a log was read: this file was attached, and no call of its drive has failed
+-- a log was read: this file was attached, and the drive didn't fail
 pub record HasReadLog (file : List ℕ) (old new : Drive) : Type 0 where
   pub attached : AttachedOne file false old new
   pub calm : new.faults ≡ old.faults
 
--- the same where a log isn't told, unless the drive is told to have failed, or of the file, that memory ran out
+-- the same after a refusal, but if it says that the drive failed or memory ran out, the file may not be attached
 pub record HasReadUnless (file : List ℕ) (old new : Drive) (why : Refusal) : Type 0 where
   pub attached : AttachesOnce file false old new (status_of why)
   pub calm : status_of why ≢ 7 → new.faults ≡ old.faults
 
--- the text of the cells that were found, by the width of the log
+-- the text of records that were found, with the width of the log
 abbrev pub TellsCells : (ℕ → List Cell → List ℕ) → Drive → ℕ → Output → Output → Type 0
 TellsCells text old status before after = (w : ℕ) × (cells : List Cell) × FindsCells w old cells × EndsWriting (text w cells) status before after
 
--- a fault that the bytes show is told, and bytes that recover to cells have their text, unless the count rose or memory ran out
+-- what the known bytes of the drive decide
 pub record IsDecided (old new : Drive) (status : ℕ) (before after : Output) : Type 0 where
+  -- a fault of the bytes is reported, unless the drive failed or memory ran out
   pub exact : (bytes : List ℕ) (fault : OpenFault) → old.bytes ≡ Some bytes → IsInBytes fault
       → IsLogFault oldest_read most_inspected bytes fault → (Rose old.faults new.faults → ⊥)
       → Refuses (log_refusal fault) status before after ⊎ (status ≡ 9)
+  -- if the bytes recover to records, their text is written, unless the drive or the sink failed or memory ran out
   pub whole : (bytes : List ℕ) (w : ℕ) (cells : List Cell) → old.bytes ≡ Some bytes → IsWidth w → Recovers w cells bytes
       → length cells ≤ most_inspected → (Rose old.faults new.faults → ⊥) → (Rose before.faults after.faults → ⊥)
       → (status ≡ 0) ⊎ (status ≡ 9)
 
--- the same of the answer, where at most so many cells are read
+-- the same about a reading's result, if at most `most` records are read
 pub record IsDecidedBy {T : Type 0} (most : ℕ) (old new : Drive) (result : Result T Refusal) : Type 0 where
   pub exact : (bytes : List ℕ) (fault : OpenFault) → old.bytes ≡ Some bytes → IsInBytes fault → IsLogFault oldest_read most bytes fault
       → (Rose old.faults new.faults → ⊥)
@@ -77,21 +80,21 @@ pub record IsDecidedBy {T : Type 0} (most : ℕ) (old new : Drive) (result : Res
   pub whole : (bytes : List ℕ) (w : ℕ) (cells : List Cell) → old.bytes ≡ Some bytes → IsWidth w → Recovers w cells bytes
       → length cells ≤ most → (Rose old.faults new.faults → ⊥) → IfErr result (λ why. why ≡ refusal.Memory)
 
--- the text of the cells or the line of a refusal; the drive's bytes and images stay
+-- the text of the records or the line of a refusal was written; the drive's bytes and images are unchanged
 pub record TellsLog (text : ℕ → List Cell → List ℕ) (file : List ℕ) (old new : Drive) (status : ℕ) (before after : Output) : Type 0 where
   pub ends : TellsCells text old status before after ⊎ EndsRefused (IsCheckingCause old new) status before after
   pub decided : IsDecided old new status before after
   pub stays : Stays old new
-  -- the drive's count is as it was, but where it is what is told to have failed
+  -- the fault count is unchanged, unless the status says that the drive failed
   pub calm : status ≢ 7 → new.faults ≡ old.faults
-  -- this file is attached, and none is made
+  -- this file was attached, and not created
   pub attached : AttachesOnce file false old new status
 
--- the same of the log on the first drive
+-- the same about the log on the first drive
 abbrev pub EndsTelling : {D : Type 0} → (ℕ → List Cell → List ℕ) → List ℕ → Targets D → Targets D → ℕ → Type 0
 EndsTelling text file old new status = TellsLog text file old.drive new.drive status old.output new.output
 
--- the four lines or the line of a refusal
+-- what `check` does with its sink and its drives
 abbrev pub ChecksLog : {D : Type 0} → List ℕ → Done (Targets D) → Type 0
 ChecksLog file done = IsQuiet (EndsTelling checked_text file) done
 

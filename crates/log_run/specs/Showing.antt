@@ -7,11 +7,11 @@ use Rattle.run_ends.specs.ObjectLines.{objects_text}
 use Rattle.run_ends.specs.Ends.{Ends, Done, Targets, IsQuiet, IsUnread}
 use Rattle.log_run.specs.Checking.{EndsTelling}
 
--- a title, and a line for each object in the box, with its moment, in the order of their ids, of the state after cells
+-- a title, and a line for each object in the box, in the order of ids, from the state after these records
 abbrev pub shown_text : Region → ℕ → List Cell → List ℕ
 shown_text region w cells = objects_text region (state_of w cells).world
 
--- these lines or the line of a refusal
+-- what `show` does with its sink and its drives
 abbrev pub ShowsLog : {D : Type 0} → List ℕ → Region → Done (Targets D) → Type 0
 ShowsLog file region done = IsQuiet (EndsTelling (shown_text region) file) done
 

@@ -1,8 +1,8 @@
-//! The command `check`: tells what the log in a file says, and reads alone.
+//! The command `check`: counts what the log in a file contains. It only reads.
 ghost use Rattle.std.specs.Prelude.{◌≡◌, ◌≤◌, IfOk, IfErr, MatchResult};
 ghost use Rattle.disk_trait.specs.Drive.{Stays};
 ghost use Rattle.recovery.specs.Found.{IsFound};
-ghost use Rattle.recovery.specs.Widths.{IsWidth};
+ghost use Rattle.zorder.specs.Width.{IsWidth};
 ghost use Rattle.run_ends.specs.Limits.{oldest_read, most_inspected};
 ghost use Rattle.run_ends.specs.Ends.{written_by};
 ghost use Rattle.log_run.specs.Checking.{HasReadLog, HasReadUnless, IsCheckingCause, IsDecidedBy, ChecksLog, TellsLog, checked_text, counts_of};
@@ -16,7 +16,7 @@ use run_ends::{
 };
 use std::alloc::Global;
 
-/// Tells what the log in a file of this name says, of version 1 or 2.
+/// Writes the counts of the log in the file of this name, of version 1 or 2.
 pub fn check_log<K: Sink, D: LogDisk>(
     alloc: Global,
     file: &str,
@@ -30,7 +30,7 @@ pub fn check_log<K: Sink, D: LogDisk>(
     without_rows(alloc, status, Drives { disk, other })
 }
 
-// The same over a drive that stays where it is, and its status.
+// The same on a borrowed drive; returns the status.
 fn tell_counts<K: Sink, D: LogDisk>(alloc: Global, file: &str, sink: &mut K, disk: &mut D) -> u8
     ensures ends { TellsLog checked_text file.now (D.drive disk.old) (D.drive disk.new) result (K.output sink.old) (K.output sink.new) }
 {
@@ -40,7 +40,7 @@ fn tell_counts<K: Sink, D: LogDisk>(alloc: Global, file: &str, sink: &mut K, dis
     }
 }
 
-/// What the log in a file of this name says, and its width.
+/// Reads the log in the file of this name: its content, and its width.
 pub(crate) fn find<D: LogDisk>(alloc: Global, file: &str, disk: &mut D) -> Result<SeenLog, Refusal>
     ensures found { IfOk result (λ f. IsWidth f.width × IsFound oldest_read f.width most_inspected (D.drive disk.old) f.seen) }
     ensures cause { IfErr result (IsCheckingCause (D.drive disk.old) (D.drive disk.new)) }

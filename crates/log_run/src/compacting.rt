@@ -1,8 +1,8 @@
-//! The command `compact`: writes what the log in a file says anew into another file.
+//! The command `compact`: writes the content of a log as a new log to another file.
 ghost use Rattle.std.specs.Prelude.{◌≡◌, ◌≢◌, ◌≤◌, [], true, IfOk, IfErr, MatchResult, length};
 ghost use Rattle.disk_trait.specs.Drive.{AttachedOne};
 ghost use Rattle.plain_list.specs.State.{ComesBySplits};
-ghost use Rattle.recovery.specs.Widths.{IsWidth};
+ghost use Rattle.zorder.specs.Width.{IsWidth};
 ghost use Rattle.run_ends.specs.Ends.{written_by};
 ghost use Rattle.run_ends.specs.Limits.{most_inspected};
 ghost use Rattle.run_ends.specs.Status.{status_of};
@@ -21,7 +21,8 @@ use run_ends::{
 };
 use std::alloc::Global;
 
-/// Writes what the log in a file says anew into a file of this name on the other drive. Of the first drive it only reads.
+/// Writes the content of the log in `file` as a new log to the file `name` on the other drive. The first drive is only
+/// read.
 pub fn compact_log<K: Sink, D: LogDisk>(
     alloc: Global,
     file: &str,
@@ -38,7 +39,7 @@ pub fn compact_log<K: Sink, D: LogDisk>(
     }
 }
 
-// Writes what was found in a log to the other drive, and how many cells that took.
+// Writes what was found as a new log to the other drive, and then how many records it has.
 fn write_anew<K: Sink, D: LogDisk>(
     alloc: Global,
     found: &SeenLog,

@@ -1,10 +1,13 @@
-//! The commands on a log: `init` makes one, `check` tells what it says, `show` lists its objects in a box, `compact` writes it anew.
+//! The commands on a log. `init` makes a log, `check` counts what it contains, `show` lists its objects in a box, and
+//! `compact` writes its content to a new log.
 //!
-//! Contracts see the drive by its bytes and what a crash may leave of them. `make_log` promises that a file of more than 17 bytes is left
-//! as it was, and that a smaller one is a log of no cells from status 0 on. `check_log` and `show_log` read alone, logs of version 1 too:
-//! they promise the text of the cells that the drive's bytes recover to, or the first fault that those bytes show. `compact_log` promises
-//! that a smaller file on the other drive is then a log of the same objects and leaves, and that the first drive is only read. `Inits`,
-//! `Checks`, `Shows` and `Compacts` are what a run of these commands keeps.
+//! Contracts see a drive by its bytes and by what a crash may leave of them. The four promises are `Inits`, `Checks`,
+//! `Shows` and `Compacts`:
+//! - `make_log` leaves a file of more than 17 bytes unchanged. A smaller file is a log without records after status 0.
+//! - `check_log` and `show_log` only read, and they read version 1 too. They write the text of the records that the
+//!   drive's bytes recover to, or the first fault of those bytes.
+//! - `compact_log` makes a file of at most 17 bytes on the other drive a log of the same objects and leaves. The first
+//!   drive is only read.
 //!
 //! Not here: what commands share, and their lines (`run_ends`), how a log is made and read (`recovery`).
 #![tactic(auto)]

@@ -2,7 +2,7 @@
 ghost use Rattle.std.specs.Prelude.{◌≡◌, ◌≢◌, true, IfOk, IfErr, MatchResult};
 ghost use Rattle.disk_trait.specs.Drive.{AttachedOne};
 ghost use Rattle.recovery.specs.Making.{Makes};
-ghost use Rattle.recovery.specs.Widths.{IsWidth};
+ghost use Rattle.zorder.specs.Width.{IsWidth};
 ghost use Rattle.run_ends.specs.Ends.{written_by};
 ghost use Rattle.run_ends.specs.Status.{status_of};
 ghost use Rattle.run_ends.specs.Attaching.{AttachesOnce};
@@ -16,7 +16,7 @@ use run_ends::{
 };
 use std::alloc::Global;
 
-/// Makes a log of this width in a file of this name, and says so.
+/// Makes a log of this width in the file of this name, and writes its line. `width` is 1 or 2.
 pub fn make_log<K: Sink, D: LogDisk>(
     alloc: Global,
     file: &str,

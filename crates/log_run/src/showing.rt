@@ -1,4 +1,4 @@
-//! The command `show`: lists the objects in a box of the log in a file, and reads alone.
+//! The command `show`: lists the objects in a box of the log in a file. It only reads.
 ghost use Rattle.run_ends.specs.Ends.{written_by};
 ghost use Rattle.log_run.specs.Checking.{TellsLog};
 ghost use Rattle.log_run.specs.Showing.{ShowsLog, shown_text};
@@ -10,7 +10,7 @@ use run_ends::{Drives, Ended, put_refusal, without_rows, write_objects, written}
 use std::alloc::Global;
 use zorder::Region;
 
-/// Lists the objects in the box with their moments, of the log in a file of this name, of version 1 or 2.
+/// Writes the objects in the box with their moments, from the log in the file of this name, of version 1 or 2.
 pub fn show_log<K: Sink, D: LogDisk>(
     alloc: Global,
     file: &str,
@@ -25,7 +25,7 @@ pub fn show_log<K: Sink, D: LogDisk>(
     without_rows(alloc, status, Drives { disk, other })
 }
 
-// The same over a drive that stays where it is, and its status.
+// The same on a borrowed drive; returns the status.
 fn tell_objects<K: Sink, D: LogDisk>(
     alloc: Global,
     file: &str,

@@ -8,10 +8,10 @@ use Rattle.plain_list.specs.State.{empty_state}
 use Rattle.disk_trait.specs.Drive.{Drive}
 use Rattle.disk_trait.specs.Moments.{LeavesOnly, LeavesNow, LeavesSince}
 use Rattle.cell_format.specs.Spelling.{newest}
-use Rattle.split_log.specs.LogText.{IsLog, HoldsCells, HoldsEither}
+use Rattle.split_log.specs.LogText.{IsLog, HoldsCells, HoldsAllOrNone}
 use Rattle.log_state.specs.Recovers.{Recovers, IsLegalCells, is_legal_cells}
 use Rattle.log_state.specs.Changes.{cells_of, failed_cells, IsPrefixRecovered}
-use Rattle.log_state.specs.Keeps.{KeepsHistory, RecoversEither}
+use Rattle.log_state.specs.Keeps.{KeepsHistory, RecoversAllOrNone}
 use Rattle.log_state.proofs.LegalCells.{legal-front}
 
 -- a front of a list is a front of a longer one
@@ -33,60 +33,60 @@ widened w first world h g more c same (m, recovers) =
     let (k, e) = more_taken (cells_of world h ++ failed_cells h) more m in
     (k, subst (λ l. Recovers w (first ++ l) c) (e ∙ ap (take k) (sym same)) recovers)
 
-module _ (w : ℕ) (first : List Cell) (world : World) (h : List Entry) (e : Entry) (cell : Cell) (t : ℕ) (d0 d1 : Drive) (earlier : t ≤ d0.clock)
+module _ (w : ℕ) (first : List Cell) (world : World) (h : List Entry) (more : List Cell) (t : ℕ) (d0 d1 : Drive) (earlier : t ≤ d0.clock)
     (sound : failed_cells h ≡ [])
-    (legal : IsLegalCells w (first ++ (cells_of world h ++ cell ∷ [])))
+    (legal : IsLegalCells w (first ++ (cells_of world h ++ more)))
     (kept : KeepsHistory w first world h t d0 None)
-    (any_moment : LeavesOnly d0 d1 (HoldsEither w (first ++ cells_of world h) cell)) where
+    (any_moment : LeavesOnly d0 d1 (HoldsAllOrNone w (first ++ cells_of world h) more)) where
   legal_before : IsLegalCells w (first ++ cells_of world h)
-  legal_before = legal-front w empty_state (first ++ cells_of world h) (cell ∷ []) (ap (is_legal_cells w empty_state) (append_assoc first (cells_of world h) (cell ∷ [])) ∙ legal)
+  legal_before = legal-front w empty_state (first ++ cells_of world h) more (ap (is_legal_cells w empty_state) (append_assoc first (cells_of world h) more) ∙ legal)
 
-  -- what holds the cells, or one more, recovers to them
-  pub recovers : (c : List ℕ) → HoldsEither w (first ++ cells_of world h) cell c → RecoversEither w (first ++ cells_of world h) cell c
+  -- what holds the cells, with the others or without, recovers to them
+  pub recovers : (c : List ℕ) → HoldsAllOrNone w (first ++ cells_of world h) more c → RecoversAllOrNone w (first ++ cells_of world h) more c
   recovers c (inl holds) = inl (record { version = newest; known = inr refl; holds = holds; legal = legal_before })
-  recovers c (inr holds) = inr (record { version = newest; known = inr refl; holds = holds; legal = ap (is_legal_cells w empty_state) (append_assoc first (cells_of world h) (cell ∷ [])) ∙ legal })
+  recovers c (inr holds) = inr (record { version = newest; known = inr refl; holds = holds; legal = ap (is_legal_cells w empty_state) (append_assoc first (cells_of world h) more) ∙ legal })
 
   -- at any moment of the append a crash leaves the cells that stood at its start, or one more
-  pub either_since : LeavesOnly d0 d1 (RecoversEither w (first ++ cells_of world h) cell)
+  pub either_since : LeavesOnly d0 d1 (RecoversAllOrNone w (first ++ cells_of world h) more)
   either_since = record {
     later = any_moment.later;
     each = λ c left. recovers c (any_moment.each c left);
     before = λ s c le left. ⊎_elim (λ was. inl was) (λ now. inr (recovers c now)) (any_moment.before s c le left);
   }
 
-  module _ (g : List Entry) (same : cells_of world g ++ failed_cells g ≡ cells_of world h ++ cell ∷ []) where
-    same_more : cells_of world g ++ failed_cells g ≡ (cells_of world h ++ failed_cells h) ++ cell ∷ []
-    same_more = same ∙ ap (λ l. l ++ cell ∷ []) (sym (append-nil (cells_of world h)) ∙ ap (λ l. cells_of world h ++ l) (sym sound))
+  module _ (g : List Entry) (same : cells_of world g ++ failed_cells g ≡ cells_of world h ++ more) where
+    same_more : cells_of world g ++ failed_cells g ≡ (cells_of world h ++ failed_cells h) ++ more
+    same_more = same ∙ ap (λ l. l ++ more) (sym (append-nil (cells_of world h)) ∙ ap (λ l. cells_of world h ++ l) (sym sound))
 
-    either_prefix : (c : List ℕ) → RecoversEither w (first ++ cells_of world h) cell c → IsPrefixRecovered w first world g c
-    either_prefix c (inl before) = let (k, e) = all_taken (cells_of world h) (cell ∷ []) in
+    either_prefix : (c : List ℕ) → RecoversAllOrNone w (first ++ cells_of world h) more c → IsPrefixRecovered w first world g c
+    either_prefix c (inl before) = let (k, e) = all_taken (cells_of world h) more in
         (k, subst (λ l. Recovers w (first ++ l) c) (e ∙ ap (take k) (sym same)) before)
-    either_prefix c (inr after) = let (k, e) = all_taken (cells_of world h ++ cell ∷ []) [] in
-        (k, subst (λ l. Recovers w l c) (append_assoc first (cells_of world h) (cell ∷ []) ∙ ap (λ l. first ++ l) (e ∙ ap (take k) (append-nil (cells_of world h ++ cell ∷ []) ∙ sym same))) after)
+    either_prefix c (inr after) = let (k, e) = all_taken (cells_of world h ++ more) [] in
+        (k, subst (λ l. Recovers w l c) (append_assoc first (cells_of world h) more ∙ ap (λ l. first ++ l) (e ∙ ap (take k) (append-nil (cells_of world h ++ more) ∙ sym same))) after)
 
     pub since_then : LeavesSince d1 t (IsPrefixRecovered w first world g)
     since_then c left = elim (any_moment.before t c earlier left) [
-      | inl was ↦ widened w first world h g (cell ∷ []) c same_more (kept.any_moment c was)
+      | inl was ↦ widened w first world h g more c same_more (kept.any_moment c was)
       | inr now ↦ either_prefix c (recovers c now)
     ]
 
-    -- the cell was added
-    pub kept_added : cells_of world g ≡ cells_of world h ++ cell ∷ [] → LeavesNow d1 (HoldsCells newest w (first ++ (cells_of world h ++ cell ∷ []))) → (failed : Option ℕ)
-        → IsLog w ((first ++ cells_of world h) ++ cell ∷ []) d1 → KeepsHistory w first world g t d1 failed
+    -- the cells were added
+    pub kept_added : cells_of world g ≡ cells_of world h ++ more → LeavesNow d1 (HoldsCells newest w (first ++ (cells_of world h ++ more))) → (failed : Option ℕ)
+        → IsLog w ((first ++ cells_of world h) ++ more) d1 → KeepsHistory w first world g t d1 failed
     kept_added cells now failed log = record {
       any_moment = since_then;
       at_end = λ c left. inl (record { version = newest; known = inr refl; holds = subst (λ l. HoldsCells newest w (first ++ l) c) (sym cells) (now c left); legal = ap (λ l. is_legal_cells w empty_state (first ++ l)) cells ∙ legal });
-      log = λ none. subst (λ l. IsLog w l d1) (append_assoc first (cells_of world h) (cell ∷ []) ∙ ap (λ l. first ++ l) (sym cells)) log;
+      log = λ none. subst (λ l. IsLog w l d1) (append_assoc first (cells_of world h) more ∙ ap (λ l. first ++ l) (sym cells)) log;
     }
 
-    -- its append failed, and the history says so
-    pub kept_failed : cells_of world g ≡ cells_of world h → (number : ℕ) → LeavesNow d1 (HoldsEither w (first ++ cells_of world h) cell)
+    -- their append failed, and the history says so
+    pub kept_failed : cells_of world g ≡ cells_of world h → (number : ℕ) → LeavesNow d1 (HoldsAllOrNone w (first ++ cells_of world h) more)
         → KeepsHistory w first world g t d1 (Some number)
     kept_failed cells number now = record {
       any_moment = since_then;
       at_end = λ c left. ⊎_elim
           (λ before. inl (subst (λ l. Recovers w (first ++ l) c) (sym cells) before))
-          (λ after. inr (subst (λ l. Recovers w l c) (append_assoc first (cells_of world h) (cell ∷ []) ∙ ap (λ l. first ++ l) (sym same)) after))
+          (λ after. inr (subst (λ l. Recovers w l c) (append_assoc first (cells_of world h) more ∙ ap (λ l. first ++ l) (sym same)) after))
           (recovers c (now c left));
       log = λ none. absurd (cc none);
     }

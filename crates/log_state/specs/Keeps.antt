@@ -16,6 +16,10 @@ pub record KeepsHistory (w : ℕ) (first : List Cell) (world : World) (h : List 
   pub at_end : LeavesNow drive (IsWhollyRecovered w first world h)
   pub log : failed ≡ None → IsLog w (first ++ cells_of world h) drive
 
--- an image recovers to these cells, or to these and one more
+-- an image recovers to these cells, or to these and all of some more
+abbrev pub RecoversAllOrNone : ℕ → List Cell → List Cell → List ℕ → Type 0
+RecoversAllOrNone w cells more image = Recovers w cells image ⊎ Recovers w (cells ++ more) image
+
+-- to these cells, or to these and one more
 abbrev pub RecoversEither : ℕ → List Cell → Cell → List ℕ → Type 0
-RecoversEither w cells cell image = Recovers w cells image ⊎ Recovers w (cells ++ cell ∷ []) image
+RecoversEither w cells cell image = RecoversAllOrNone w cells (cell ∷ []) image

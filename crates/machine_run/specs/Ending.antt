@@ -5,7 +5,7 @@ use Rattle.run_ends.specs.declared.ended.Drives.{Drives}
 use Rattle.run_ends.specs.Ends.{Ends}
 use Rattle.location_run.specs.Run.{AnswersUsage, KeepsAsked}
 
--- A run over these words ended with this status: with some drives left and some history it kept what it promises of its ends.
+-- A run with these words ended with this status. It kept its promise, for some drives that it left and some history.
 pub record EndsRun {S D : Type 0} (words : List (List ℕ)) (old : Ends S D) (new : Drives D → Ends S D) (status : ℕ) : Type 0 where
   pub drives : Drives D
   pub history : List Entry

@@ -2,7 +2,7 @@
 use std::env::{self, Env};
 use std::io;
 
-/// The words behind the program's name. Where one isn't UTF-8 there are none, which are as little accepted.
+/// The words after the program's name. If a word isn't UTF-8, the list is empty, which is no command either.
 pub fn words_of<R: Env + AllocGlobal>(rt: &R) -> io::Result<Vec<String>> {
     match env::args(rt) {
         Ok(args) => Ok(args.skip(1).collect(rt.alloc())?),

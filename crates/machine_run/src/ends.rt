@@ -1,4 +1,4 @@
-//! A run over std's streams.
+//! A run on standard input and output.
 ghost use Rattle.std.specs.Prelude.{◌≡◌, ◌↔◌, map};
 ghost use Rattle.std.specs.Process.{exit_status};
 ghost use Rattle.std.specs.String.{string_bytes};
@@ -21,14 +21,15 @@ use std::process::ExitCode;
 use std::sync::Wait;
 use std::thread::Threads;
 
-// The status for want of memory.
+// The status if memory runs out.
 const NO_MEMORY: u8 = 9;
 
-// How much memory is asked for at once, and given back: a C library that takes large pieces from the kernel one by one, and gives them
-// back at once, as glibc does, keeps pieces of up to that size from then on and uses them again.
+// The bytes that are allocated and freed once at the start. glibc takes large pieces from the kernel one by one, and
+// gives each back at once. After it has freed a piece of this size, it keeps pieces up to that size and uses them
+// again.
 const HEAP: usize = 16 << 20;
 
-/// Runs these words over standard input and output and these drives.
+/// Runs the program with these words on standard input and output and these drives.
 pub fn run_words<R: Threads + Wait + Sync + AllocGlobal + Input + Print, D: LogDisk + Send>(
     rt: &R,
     words: &[String],
@@ -43,7 +44,7 @@ pub fn run_words<R: Threads + Wait + Sync + AllocGlobal + Input + Print, D: LogD
     run_over(rt, words, &mut source, &mut sink, disk, other)
 }
 
-/// Runs these words over this source, this sink and these drives.
+/// Runs the program with these words on this source, this sink and these drives.
 pub fn run_over<R: Threads + Wait + Sync + AllocGlobal, S: Source, K: Sink, D: LogDisk + Send>(
     rt: &R,
     words: &[String],
@@ -64,19 +65,19 @@ fn keep_pieces(alloc: Global) {
     let _ = Vec::<u8>::with_capacity(alloc, HEAP);
 }
 
-// A program ends with the status of its run.
+// The exit code of a run's status.
 fn exit_code<D: Drop>(outcome: &Outcome<D>) -> ExitCode
     ensures { exit_status result ≡ outcome.now.status }
 {
     ExitCode::from(outcome.status)
 }
 
-/// A drive without a file.
+/// A drive on the machine's files. No file is attached to it yet.
 pub fn file_drive<R: Files + Clone + Drop>(rt: &R) -> io::Result<FileDisk<R>> {
     Ok(FileDisk::new(rt.clone()?))
 }
 
-/// Writes that there was no memory for a run.
+/// Writes the line that memory ran out, and returns status 9.
 pub fn out_of_memory<R: Print>(rt: &R) -> ExitCode
     ensures { exit_status result ≡ 9 }
 {

@@ -1,9 +1,11 @@
-//! The top call over standard input and output, for the programs that share it, and what they hand it: words, and drives over files.
+//! The top call on standard input and output, for the programs that share it, with its words and with drives on files.
 //!
-//! Contracts see the status of an `ExitCode`. `run_words` ends with 2 exactly where the words aren't accepted, and `run_over`, the same over
-//! any ends, with the status of a run that kept its promise. What a machine hands to a program no contract says.
+//! Contracts see the status of an `ExitCode`. `run_words` returns 2 if and only if the words are not accepted.
+//! `run_over` does the same on any source and sink, and returns the status of a run that kept its promise. No contract
+//! says what the machine passes to a program.
 //!
-//! Not here: what the words ask for and what is promised (`location_run`), the drive over a file (`disk_file`), `main` (`mdloc`).
+//! Not here: which command some words mean and what it promises (`location_run`), the drive on a file (`disk_file`),
+//! `main` (`mdloc`).
 #![tactic(auto)]
 
 mod command_line;

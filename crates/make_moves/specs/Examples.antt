@@ -1,4 +1,4 @@
--- Worked draws and rows, computed.
+-- Worked values, computed.
 use Rattle.std.specs.Prelude.{◌≡◌, [], ◌∷◌}
 use Rattle.std.proofs.Common.{refl}
 use Rattle.plain_list.specs.declared.ops.Op.TheVariants as op

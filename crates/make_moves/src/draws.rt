@@ -1,4 +1,4 @@
-//! A linear congruential generator of 64 bits, which gives the upper half of its state.
+//! A linear congruential generator with a state of 64 bits. Each draw returns the upper half of the state.
 ghost use Rattle.std.specs.Prelude.{◌≡◌};
 ghost use Rattle.make_moves.specs.Draws.{next_state, drawn};
 

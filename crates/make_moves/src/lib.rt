@@ -1,10 +1,10 @@
-//! Makes rows by a random generator, the same for the same seed.
+//! Makes pseudo-random rows. The same seed gives the same rows.
 //!
-//! Contracts see the rows as `made_rows`: row by row, three draws of a linear congruential generator and what they make
-//! of the row. `make` answers exactly these, or want of memory. The ids of different sessions are disjoint, so the points
-//! that are there in the end are the same, however the sessions take turns.
+//! Contracts see the rows as `made_rows`: each row uses three draws of a linear congruential generator. `make` returns
+//! exactly these rows, or fails if memory runs out. The ids of different sessions are disjoint. So the points at the
+//! end are the same, however the sessions alternate.
 //!
-//! Not here: what a row is (`csv_rows`), playing rows.
+//! Not here: what a row is (`csv_rows`), and playing rows.
 #![tactic(auto)]
 
 mod draws;

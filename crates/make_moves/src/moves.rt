@@ -9,13 +9,13 @@ use plain_list::Op;
 use std::alloc::Global;
 use zorder::{Memory, Point, Region};
 
-/// How far a box reaches on each axis.
+/// The size of a box on each axis. The box ends at the edge of the plane.
 const REACH: u32 = 16_777_216;
 
-/// A moment is the first coordinate without its low bits.
+/// The moment of a position is its x divided by this number, which leaves the upper 16 bits of x.
 const MOMENTS: u32 = 65_536;
 
-/// The first rows, this many, that this seed makes.
+/// Returns the first `n` rows of a seed.
 pub fn make(alloc: Global, n: u32, seed: u64) -> Result<Rows, Memory>
     requires { n ≤ 65536 }
     ensures { IfOk result (λ rows. rows ≡ made_rows n seed) }
@@ -28,7 +28,7 @@ pub fn make(alloc: Global, n: u32, seed: u64) -> Result<Rows, Memory>
     Ok(Rows::from_vec(rows))
 }
 
-// Each row takes three draws, whatever it uses of them.
+// Each row takes three draws, however many of them it uses.
 fn next_row(draws: &mut Draws, i: u32) -> InRow
     ensures row { result ≡ row_drawn i draws.old.state }
     ensures state { draws.new.state ≡ after_draws 3 draws.old.state }

@@ -1,4 +1,5 @@
-//! Runs the words of the command line over standard input and output and two files of the machine, and ends with the status.
+//! The program: runs the words of the command line on standard input and output and two files of the machine, and exits
+//! with the run's status.
 #![tactic(auto)]
 
 use machine_run::{file_drive, out_of_memory, run_words, words_of};

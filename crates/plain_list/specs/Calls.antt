@@ -1,4 +1,4 @@
--- Calls with the answers that they got.
+-- Calls with their answers.
 use Rattle.std.specs.Prelude.{◌≡◌, List, map}
 use Rattle.plain_list.specs.declared.ops.Call.{Call}
 use Rattle.plain_list.specs.declared.entries.Entry.{Entry}
@@ -6,7 +6,7 @@ use Rattle.plain_list.specs.declared.entries.Entry.TheVariants as entry
 use Rattle.plain_list.specs.World.{World}
 use Rattle.plain_list.specs.History.{replies}
 
--- the step of a call
+-- the entry of a call
 abbrev pub entry_of : Call → Entry
 entry_of c = entry.Call c.session c.row c.op
 

@@ -1,4 +1,4 @@
-//! The answer of a world.
+//! The answer of a world to an operation, computed on the plain list.
 ghost use Rattle.std.specs.Prelude.{◌≡◌, IfOk};
 ghost use Rattle.plain_list.specs.Answer.{answer_of, moved_or_stale};
 
@@ -10,7 +10,7 @@ use crate::world::{MOST_MEMBERS, Stamped, World};
 use std::alloc::Global;
 use zorder::Memory;
 
-/// The answer of a world to an operation.
+/// Returns the answer of a world to an operation. The world is unchanged; `after` returns the changed one.
 pub fn answer(alloc: Global, world: &World, op: &Op) -> Result<Answer, Memory>
     ensures { IfOk result (λ a. a ≡ answer_of world.now op.now) }
 {
@@ -42,7 +42,7 @@ pub fn answer(alloc: Global, world: &World, op: &Op) -> Result<Answer, Memory>
     }
 }
 
-// What a move of this moment answers, where this is kept.
+// The answer to a move with this moment to an object with this position.
 fn moved_or_stale(moment: u64, kept: Stamped) -> Answer
     ensures { result ≡ moved_or_stale moment kept }
 {

@@ -1,4 +1,4 @@
-//! The objects in a box.
+//! Box queries on the plain list.
 ghost use Rattle.std.specs.Prelude.{◌≡◌, ◌↔◌, IsTrue, IfOk};
 ghost use Rattle.zorder.specs.Region.{IsBox};
 ghost use Rattle.plain_list.specs.Queries.{members_in, listed};
@@ -10,10 +10,10 @@ use crate::world::{Member, World};
 use std::alloc::{AllocError, Global};
 use zorder::{Memory, Placed, Region};
 
-/// How many objects the answer to a box may list.
-pub(crate) const MOST_LISTED: usize = 2048;
+/// The number of objects that the answer to a box may list. If the box has more, the answer is their number.
+pub const MOST_LISTED: usize = 2_048;
 
-/// Whether the lower corner is at most the upper one, on both axes.
+/// Returns whether the lower corner is at most the upper corner on both axes.
 pub fn is_box(region: &Region) -> bool
     ensures { IsTrue result ↔ IsBox region.now }
 {

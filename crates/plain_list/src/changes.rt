@@ -1,4 +1,4 @@
-//! What an operation changes in a list of rising ids.
+//! How an operation changes the list of objects, whose ids rise.
 ghost use Rattle.std.specs.Prelude.{◌≡◌, OnOk, OnErr};
 ghost use Rattle.plain_list.specs.World.{IsWorld};
 ghost use Rattle.plain_list.specs.Answer.{after_of};

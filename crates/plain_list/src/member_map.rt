@@ -1,4 +1,4 @@
-//! A world as a map, for whoever changes it often.
+//! A world as an ordered map, for frequent changes.
 ghost use Rattle.std.specs.Prelude.{◌≡◌, ◌≤◌, ◌<◌, ◌+◌, ◌++◌, [], length, None, OnErr, IfOk, Option, vec_len, vec_capacity};
 ghost use Rattle.plain_list.specs.World.{most_members, IsWorld, position_of};
 ghost use Rattle.plain_list.specs.Answer.{with_moved, without};
@@ -11,7 +11,7 @@ use std::marker::Model;
 use std::mem::replace;
 use zorder::coordinates_fit;
 
-/// The position of each object, by its id: a world that takes each change in logarithmic time.
+/// The position of each object by its id. A look-up or a change takes logarithmic time.
 #[derive(Drop)]
 pub struct MemberMap {
     positions: BTreeMap<u64, Stamped>,
@@ -52,7 +52,7 @@ impl MemberMap {
         self.positions.get(&id).copied()
     }
 
-    /// Puts an object at a position, in place of the one of its id, and says what was kept of that.
+    /// Inserts an object, or replaces the position of the object with this id, and returns the position that it had.
     pub fn insert(&mut self, id: u64, to: Stamped) -> Result<Option<Stamped>, AllocError>
         requires room { length self.old < most_members }
         ensures ok { IfOk result (λ there. IsPut id to there self.old self.new) }
@@ -64,7 +64,8 @@ impl MemberMap {
         Ok(self.positions.insert(id, to)?)
     }
 
-    /// Moves an object, if it is there, whatever its moment is, and says what was kept. It takes no memory.
+    /// Replaces the position of the object with this id, whatever its moment is. Returns the old position, or `None` if
+    /// no object has the id. The call takes no memory.
     pub fn replace(&mut self, id: u64, to: Stamped) -> Option<Stamped>
         ensures found { result ≡ position_of self.old id }
         ensures moved { self.new ≡ with_moved id to self.old }
@@ -75,7 +76,7 @@ impl MemberMap {
         Some(replace(position, to))
     }
 
-    /// Takes an object out, if it is there, and says what was kept of it.
+    /// Removes the object with this id and returns its position, or `None` if no object has the id.
     pub fn remove(&mut self, id: u64) -> Option<Stamped>
         ensures found { result ≡ position_of self.old id }
         ensures gone { self.new ≡ without id self.old }
@@ -83,7 +84,7 @@ impl MemberMap {
         self.positions.remove(&id)
     }
 
-    /// The same objects as one list, in memory that was taken before.
+    /// Copies the objects into a world whose memory the caller has reserved. So the call cannot fail.
     pub fn world_in(&self, mut room: Vec<Member>) -> World
         requires empty { vec_len room ≡ 0 }
         requires enough { length self.now ≤ vec_capacity room }
@@ -93,7 +94,7 @@ impl MemberMap {
         World::from_vec(room)
     }
 
-    // The same objects behind those of a list, in memory that was taken before.
+    // Appends the objects to a list with enough reserved memory.
     pub(crate) fn add_to(&self, list: &mut Vec<Member>)
         requires { vec_len list.old + length self.now ≤ vec_capacity list.old }
         ensures items { list.new.items ≡ list.old.items ++ self.now }

@@ -1,4 +1,4 @@
-//! A world as many small maps, for whoever looks up an object with each call.
+//! A world as many small maps, for fast look-ups.
 ghost use Rattle.std.specs.Prelude.{◌≡◌, ◌<◌, ◌+◌, [], length, None, OnOk, OnErr, IfOk, replicate};
 ghost use Rattle.plain_list.specs.World.{most_members, IsWorld, position_of};
 ghost use Rattle.plain_list.specs.Answer.{with_moved, without};
@@ -13,11 +13,12 @@ use zorder::coordinates_fit;
 
 const SHARDS: usize = 2_048;
 
-// The golden ratio's bits behind the point: ids that are dense, or so in each session, are spread over all shards.
+// The first 64 bits of the golden ratio's fraction. They spread ids that are dense, in all or per session, over all
+// shards.
 const MIXER: u64 = 0x9E37_79B9_7F4A_7C15;
 
-/// The position of each object, by its id: a world dealt over shards, so that a look-up mostly reads one node of a small map.
-/// Whatever ids are chosen, a shard is an ordered map, and a look-up takes logarithmic time.
+/// The position of each object by its id, in 2,048 shards, so that a look-up mostly reads one node of a small map. Each
+/// shard is an ordered map, so a look-up takes logarithmic time whatever the ids are.
 #[derive(Drop)]
 pub struct MemberShards {
     alloc: Global,
@@ -38,7 +39,7 @@ impl Model for MemberShards {
 }
 
 impl MemberShards {
-    /// No objects. Memory is taken for the first one.
+    /// Creates a world without objects. The first insert takes the memory for the shards.
     pub fn new(alloc: Global) -> MemberShards
         ensures { result ≡ [] }
     {
@@ -49,7 +50,7 @@ impl MemberShards {
         }
     }
 
-    /// The objects of a world.
+    /// Creates the shards with the objects of a world.
     pub fn from_world(alloc: Global, world: &World) -> Result<MemberShards, AllocError>
         ensures { IfOk result (λ shards. shards ≡ world.now) }
     {
@@ -63,7 +64,7 @@ impl MemberShards {
         self.len
     }
 
-    /// The objects as one list.
+    /// Returns the objects as one list.
     pub fn to_world(&self) -> Result<World, AllocError>
         ensures { IfOk result (λ world. world ≡ self.now) }
     {
@@ -81,7 +82,7 @@ impl MemberShards {
         self.shards[shard_of(id)].position(id)
     }
 
-    /// Puts an object at a position, in place of the one of its id, and says what was kept of that.
+    /// Inserts an object, or replaces the position of the object with this id, and returns the position that it had.
     pub fn insert(&mut self, id: u64, to: Stamped) -> Result<Option<Stamped>, AllocError>
         requires room { length self.old < most_members }
         ensures ok { IfOk result (λ there. IsPut id to there self.old self.new) }
@@ -96,7 +97,8 @@ impl MemberShards {
         Ok(there)
     }
 
-    /// Moves an object, if it is there, whatever its moment is, and says what was kept. It takes no memory.
+    /// Replaces the position of the object with this id, whatever its moment is. Returns the old position, or `None` if
+    /// no object has the id. The call takes no memory.
     pub fn replace(&mut self, id: u64, to: Stamped) -> Option<Stamped>
         ensures found { result ≡ position_of self.old id }
         ensures moved { self.new ≡ with_moved id to self.old }
@@ -109,7 +111,7 @@ impl MemberShards {
         self.shards[shard_of(id)].replace(id, to)
     }
 
-    /// Takes an object out, if it is there, and says what was kept of it.
+    /// Removes the object with this id and returns its position, or `None` if no object has the id.
     pub fn remove(&mut self, id: u64) -> Option<Stamped>
         ensures found { result ≡ position_of self.old id }
         ensures gone { self.new ≡ without id self.old }
@@ -123,7 +125,7 @@ impl MemberShards {
     }
 }
 
-// The index of the shard that an id is dealt to, by the highest bits of its product.
+// Returns the index of the shard for an id: the highest 11 bits of its product with MIXER.
 fn shard_of(id: u64) -> usize
     ensures index { result ≡ shard_of id }
     ensures within { result < most_shards }
@@ -131,7 +133,7 @@ fn shard_of(id: u64) -> usize
     (id.wrapping_mul(MIXER) >> 53) as usize
 }
 
-// Makes the shards, where there are none yet.
+// Creates the shards if there are none yet.
 fn make_shards(alloc: Global, shards: &mut Vec<MemberMap>) -> Result<(), AllocError>
     ensures ok { OnOk result (AreMade shards.old.items shards.new.items) }
     ensures none { OnErr result (shards.old.items ≡ []) }
@@ -153,7 +155,7 @@ fn empty_shards(alloc: Global) -> Result<Vec<MemberMap>, AllocError>
     Ok(shards)
 }
 
-// The objects of a world, one after the other.
+// Inserts the objects of a world one after the other.
 fn shards_of(alloc: Global, world: &[Member]) -> Result<MemberShards, AllocError>
     requires { IsWorld world.now }
     ensures { IfOk result (λ shards. shards ≡ world.now) }
@@ -165,7 +167,7 @@ fn shards_of(alloc: Global, world: &[Member]) -> Result<MemberShards, AllocError
     Ok(shards)
 }
 
-// The objects of shards that have so many in all, one shard after the other.
+// Returns the objects of all shards, one shard after the other. `len` is their number.
 fn in_turn(alloc: Global, shards: &[MemberMap], len: usize) -> Result<Vec<Member>, AllocError>
     requires { len ≡ length (in_turn shards.now) }
     ensures { IfOk result (λ members. members.items ≡ in_turn shards.now) }

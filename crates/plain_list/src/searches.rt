@@ -1,4 +1,4 @@
-//! Where an id stands among rising ids.
+//! Binary searches by id.
 ghost use Rattle.std.specs.Prelude.{◌≡◌};
 ghost use Rattle.plain_list.specs.Places.{IsRising};
 ghost use Rattle.plain_list.specs.World.{places_of, position_of};
@@ -6,7 +6,7 @@ ghost use Rattle.plain_list.specs.Answer.{IsIndexFor};
 
 use crate::world::{Member, Stamped, World};
 
-/// What is kept of the object with this id.
+/// Returns the position of the object with this id.
 pub fn find_id(world: &World, id: u64) -> Option<Stamped>
     ensures { result ≡ position_of world.now id }
 {
@@ -17,7 +17,7 @@ pub fn find_id(world: &World, id: u64) -> Option<Stamped>
     }
 }
 
-/// The index of the object with this id, or else the index where it belongs.
+/// Returns the index of the object with this id, or `Err` with the index at which it would be inserted.
 pub(crate) fn index_for(members: &[Member], id: u64) -> Result<usize, usize>
     requires { IsRising (places_of members.now) }
     ensures { IsIndexFor id members.now result }

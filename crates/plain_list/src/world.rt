@@ -1,4 +1,4 @@
-//! The world: every object that there is, by id, with its position and the moment of that.
+//! The world: every object with its position and the moment of the position.
 ghost use Rattle.std.specs.Prelude.{◌≡◌, [], IfOk, IfErr};
 ghost use Rattle.plain_list.specs.Answer.{after_of};
 
@@ -8,18 +8,18 @@ use std::alloc::{AllocError, Global};
 use std::marker::Model;
 use zorder::{Placed, Point};
 
-/// How many objects a world may have.
+/// The greatest number of objects in a world.
 pub const MOST_MEMBERS: usize = 1_048_576;
 
-/// A position with its moment, a number of the caller's that later positions of the object don't go below. It has nothing
-/// to do with a clock of ours.
+/// A position with its moment. The moment is a number that the caller chooses, and a move never lowers it. The store
+/// reads no clock.
 #[derive(Clone, Copy, Debug, PartialEq, Eq)]
 pub struct Stamped {
     pub at: Point,
     pub moment: u64,
 }
 
-/// An object with its position, and the moment of that.
+/// An object with its position and the moment of the position.
 #[derive(Clone, Copy, Debug, PartialEq, Eq)]
 pub struct Member {
     pub id: u64,
@@ -30,7 +30,7 @@ pub struct Member {
 impl Member {
     ghost use Rattle.plain_list.specs.World.{stamped_of, placed_of};
 
-    /// What is kept of it beside its id.
+    /// Returns the position and its moment.
     pub fn stamped(&self) -> Stamped
         ensures { result ≡ stamped_of self.now }
     {
@@ -40,7 +40,7 @@ impl Member {
         }
     }
 
-    /// Where it is: all that an index and a query see of it.
+    /// Returns the id and the position, which are all that an index and a query see.
     pub fn placed(&self) -> Placed
         ensures { result ≡ placed_of self.now }
     {
@@ -51,7 +51,7 @@ impl Member {
     }
 }
 
-/// The objects that there are, in the order of their ids.
+/// All objects, in the order of their ids.
 #[derive(Drop)]
 pub struct World {
     members: Vec<Member>,
@@ -69,7 +69,7 @@ impl Model for World {
     ghost invariant = { λ w. IsWorld w.members.items };
 }
 
-/// The world as it was, where memory ran out.
+/// The unchanged world, returned because memory ran out.
 #[derive(Drop)]
 pub struct WorldBack {
     pub world: World,
@@ -109,7 +109,7 @@ impl World {
     }
 }
 
-/// The world after an operation.
+/// Returns the world after an operation. If memory runs out, the error has the unchanged world.
 pub fn after(mut world: World, op: &Op) -> Result<World, WorldBack>
     ensures ok { IfOk result (λ w. w ≡ after_of world op.now) }
     ensures err { IfErr result (λ e. e.world ≡ world) }

@@ -8,7 +8,8 @@ use Rattle.cell_format.specs.Spelling.{newest}
 use Rattle.log_state.specs.Recovers.{Recovers}
 use Rattle.recovery.specs.Faults.{IsInBytes}
 use Rattle.recovery.specs.Found.{IsFound, IsFree, IsNewest}
-use Rattle.recovery.specs.Widths.{IsWidth, HasWidth, IsLogFault}
+use Rattle.zorder.specs.Width.{IsWidth}
+use Rattle.recovery.specs.Widths.{HasWidth, IsLogFault}
 use Rattle.recovery.specs.Opening.{KeepsCells, KeepsNewest, HasNoLog, IsUntouched, KeepsStanding, RefusesLog}
 use Rattle.recovery.specs.LogText.{IsLog}
 use Rattle.recovery.specs.declared.seen.Seen.{Seen}

@@ -6,7 +6,7 @@ use Rattle.cell_format.specs.Spelling.{newest}
 use Rattle.disk_trait.specs.Drive.{Drive}
 use Rattle.recovery.specs.LogText.{IsLog, HoldsCells}
 use Rattle.log_state.specs.Recovers.{IsLegalCells, Recovers}
-use Rattle.recovery.specs.Widths.{IsWidth}
+use Rattle.zorder.specs.Width.{IsWidth}
 use Rattle.recovery.proofs.Exclusive.{one_recovery}
 use Rattle.recovery.proofs.HeadLemmas.{index_version}
 use Rattle.recovery.proofs.WidthLemmas.{recovers_width, same_width}

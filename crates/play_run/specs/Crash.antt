@@ -12,31 +12,34 @@ use Rattle.log_state.specs.Recovers.{Recovers, state_of}
 use Rattle.log_state.specs.Changes.{cells_of, failed_cells, IsWhollyRecovered}
 use Rattle.play_run.specs.Origin.{Origin}
 
--- an image of the newest version that recovers to these cells, whose leaves tile the key space
+-- an image of the newest version that recovers to these records, whose leaves tile the key space
 pub record RecoversTo (w : ℕ) (cells : List Cell) (image : List ℕ) : Type 0 where
   pub recovers : Recovers w cells image
   pub tile : Tile (state_of w cells).leaves
   pub version : slice_index image 8 ≡ newest
 
--- An image that recovers to the cells that stood first and some of the history's, in order and none skipped. The cell of a failed append may
--- stand after them.
+-- An image that recovers to the first records and some of the history's, in order and without gaps. The record of a
+-- failed append may follow them.
 abbrev pub RecoversToPrefix : ℕ → List Cell → World → List Entry → List ℕ → Type 0
 RecoversToPrefix w first world h image = (m : ℕ) × RecoversTo w (first ++ take m (cells_of world h ++ failed_cells h)) image
 
--- A crash at any moment of the run leaves the cells that stood first and some of the history's. A crash after it leaves all of them, and where
--- the drive didn't fail nothing else.
+-- What a crash leaves of a log to which a run appended the records of its history. `first` are the records at the
+-- start.
 pub record KeepsAll (w : ℕ) (first : List Cell) (world : World) (h : List Entry) (old new : Drive) (status : ℕ) : Type 0 where
+  -- a crash at any moment of the run leaves the first records and a prefix of the history's
   pub any_moment : LeavesSince new old.clock (RecoversToPrefix w first world h)
+  -- a crash after the run leaves all of them, and maybe the record of a failed append
   pub at_end : LeavesNow new (IsWhollyRecovered w first world h)
+  -- if the drive didn't fail, a crash after the run leaves exactly the first records and the history's
   pub all : status ≢ 7 → LeavesNow new (Recovers w (first ++ cells_of world h))
 
--- the same from an origin over a log, where the drive's content is known, and nothing was pending
+-- the same from an origin on a log, if the drive's content was known and nothing was pending
 abbrev pub KeepsPlayed : Origin → Drive → Drive → ℕ → List Entry → Type 0
 KeepsPlayed from old new status h = (bytes : List ℕ) (first : List Cell) → old.bytes ≡ Some bytes → from.first ≡ Some first → IsSynced old
     → KeepsAll from.width first from.state.world h old new status
 
--- Whatever was pending before, the file of a run that the drive didn't stop is the text of the cells that stood first and of the history's, and
--- a crash leaves it.
+-- If the drive did not stop the run, the file has exactly the first records and the history's, and a crash leaves it.
+-- This holds whatever was pending before.
 abbrev pub KeepsText : Origin → Drive → Drive → ℕ → List Entry → Type 0
 KeepsText from old new status h = (bytes : List ℕ) (first : List Cell) → old.bytes ≡ Some bytes → from.first ≡ Some first → status ≢ 7
     → IsLog from.width (first ++ cells_of from.state.world h) new

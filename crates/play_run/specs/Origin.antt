@@ -5,25 +5,25 @@ use Rattle.cell_format.specs.Spelling.{newest}
 use Rattle.plain_list.specs.State.{State, empty_state, at_rest}
 use Rattle.disk_trait.specs.Drive.{Drive}
 use Rattle.log_state.specs.Recovers.{IsLegalCells, Recovers, state_of}
-use Rattle.recovery.specs.Widths.{IsWidth}
+use Rattle.zorder.specs.Width.{IsWidth}
 use Rattle.run_ends.specs.Limits.{most_played}
 
--- the width of splits, the state at the beginning, and the cells of the log then, where there is one
+-- the width of splits, the state at the beginning, and the records of the log at the beginning, if there is a log
 pub record Origin : Type 0 where
   pub width : ℕ
   pub state : State
   pub first : Option (List Cell)
 
--- without a log there is nothing at first, and splits make two children
+-- without a log a play begins with no objects, and each split makes two children
 abbrev pub new_origin : Origin
 new_origin = record { width = 1; state = empty_state; first = None }
 
--- what cells leave, with no split open
+-- on a log a play begins with the state after its records, with no split open
 abbrev pub origin_of : ℕ → List Cell → Origin
 origin_of w first = record { width = w; state = at_rest (state_of w first); first = Some first }
 
--- The origin is what legal cells leave, few enough, by the width of the log. Where the drive's content is known, its bytes recover to them, and are
--- of the newest version.
+-- The origin is the state after legal records of the log's width, at most 16,000,000 of them. If the drive's content is
+-- known, its bytes recover to them and are of the newest version.
 pub record IsFoundOrigin (drive : Drive) (o : Origin) : Type 0 where
   pub width : ℕ
   pub known : IsWidth width
@@ -34,7 +34,7 @@ pub record IsFoundOrigin (drive : Drive) (o : Origin) : Type 0 where
   pub recovers : (bytes : List ℕ) → drive.bytes ≡ Some bytes → Recovers width first bytes
   pub version : (bytes : List ℕ) → drive.bytes ≡ Some bytes → slice_index bytes 8 ≡ newest
 
--- the origin of a play over no log, or over the log in a file
+-- the origin of a play without a log, or on the log in a file
 abbrev pub IsOrigin : Option (List ℕ) → Drive → Origin → Type 0
 IsOrigin None drive o = o ≡ new_origin
 IsOrigin (Some file) drive o = IsFoundOrigin drive o

@@ -1,4 +1,4 @@
--- The command `play`, and how rows go that are played.
+-- The command `play`, and what happens to rows that are played.
 use Rattle.std.specs.Prelude.{◌≡◌, ◌≢◌, ◌⊎◌, ℕ, ◌+◌, ◌≤◌, false, List, [], length, slice_index, Option, Some, None, Ok, Err, ⊤}
 use Rattle.std.specs.Option.{option_map}
 use Rattle.causes.specs.Causes.{Rose}
@@ -10,7 +10,8 @@ use Rattle.cell_format.specs.Spelling.{newest}
 use Rattle.recovery.specs.declared.seen.OpenFault.{OpenFault}
 use Rattle.log_state.specs.Recovers.{Recovers}
 use Rattle.recovery.specs.Faults.{IsInBytes}
-use Rattle.recovery.specs.Widths.{IsWidth, HasWidth, IsLogFault}
+use Rattle.zorder.specs.Width.{IsWidth}
+use Rattle.recovery.specs.Widths.{HasWidth, IsLogFault}
 use Rattle.recovery.specs.Calls.{StopsAtFault}
 use Rattle.recovery.specs.Opening.{KeepsCells, KeepsNewest, HasNoLog, IsUntouched}
 use Rattle.csv_rows.specs.declared.rows.InRow.{InRow}
@@ -36,7 +37,8 @@ use Rattle.lane_splits.specs.Settled.{SplitsAreDone, IsWithinLimits}
 use Rattle.play_run.specs.Crash.{KeepsPlayed, KeepsText}
 use Rattle.play_run.specs.Standing.{HoldsLog}
 
--- the drive's bytes recover to cells, few enough, by either width and the newest version, and its count didn't rise
+-- the drive's bytes recover to at most 16,000,000 records, with either width and the newest version, and the drive
+-- didn't fail
 pub record IsGoodLog (old new : Drive) : Type 0 where
   pub bytes : List ℕ
   pub told : old.bytes ≡ Some bytes
@@ -48,36 +50,40 @@ pub record IsGoodLog (old new : Drive) : Type 0 where
   pub few : length first ≤ most_played
   pub calm : Rose old.faults new.faults → ⊥
 
--- why no log is opened: what the bytes show is told, and a good log is opened, unless the count rose or memory ran out. A file that is no such
--- log, as one of an older version, is left as it was, at every moment. The count is as it was, unless the drive is what is told to have failed,
--- and no device call was made behind one that failed.
+-- Why a log was not opened, and what the refused opening left. No device call was made after one that failed.
 pub record IsNotOpened (file : List ℕ) (old new : Drive) (why : Refusal) : Type 0 where
   pub cause : IsReadingCause oldest_played most_played old new why
+  -- a fault of the known bytes is the one that is reported, unless the drive failed or memory ran out
   pub exact : (bytes : List ℕ) (fault : OpenFault) → old.bytes ≡ Some bytes → IsInBytes fault → IsLogFault oldest_played most_played bytes fault → (Rose old.faults new.faults → ⊥)
       → (why ≡ log_refusal fault) ⊎ (why ≡ refusal.Memory)
+  -- a good log is refused only if memory ran out
   pub whole : IsGoodLog old new → why ≡ refusal.Memory
+  -- the records of a log of this width are what a crash leaves at each moment, if a crash left them before
   pub keeps : (w : ℕ) (bytes : List ℕ) → old.bytes ≡ Some bytes → HasWidth w bytes → KeepsCells w old new
+  -- a file that has no such log, as one of an older version, is unchanged at each moment
   pub untouched : (bytes : List ℕ) → old.bytes ≡ Some bytes → ((w : ℕ) → IsWidth w → HasNoLog w most_played bytes) → IsUntouched old new
-  -- a log that stood there still does, unless the drive failed, and a crash leaves its version
+  -- unless the drive failed, a log that stood on it still does; each crash image keeps the newest version
   pub stands : why ≢ refusal.Disk None → (w : ℕ) (cells : List Cell) → HoldsLog w cells old → HoldsLog w cells new
   pub newest : KeepsNewest old new
+  -- the fault count is unchanged, unless the refusal says that the drive failed
   pub calm : why ≢ refusal.Disk None → new.faults ≡ old.faults
   pub calls : StopsAtFault old new
-  -- this file is attached, and none is made
+  -- the file was attached, and not created
   pub attached : AttachesOnce file false old new (status_of why)
 
--- why there is no book for rows: without a log memory ran out, and the drive is left as it was
+-- why there is no book for the rows: without a log, memory ran out and the drive is unchanged; with one, it was not
+-- opened
 abbrev pub HasNoBook : {D : Type 0} → Option (List ℕ) → Targets D → Targets D → Refusal → Type 0
 HasNoBook None old new why = (why ≡ refusal.Memory) × (new.disk ≡ old.disk)
 HasNoBook (Some file) old new why = IsNotOpened file old.drive new.drive why
 
--- there is no book for the rows: none is called
+-- there is no book for the rows, so no row was called
 pub record IsLogUnopened {D : Type 0} (log : Option (List ℕ)) (old new : Targets D) (status : ℕ) (h : List Entry) : Type 0 where
   pub none : h ≡ []
   pub refused : EndsRefused (HasNoBook log old new) status old.output new.output
 
--- The append of a cell failed: the history ends with that and the step that was lost, the cell's number is the log's number of cells, and the
--- drive's count rose.
+-- The append of a record failed. The history ends with the failure and the lost step, the record's number is the log's
+-- number of records, and the drive's fault count rose.
 pub record AppendFailed (from : Origin) (rows : List InRow) (old new : Drive) (h : List Entry) (cell : ℕ) : Type 0 where
   pub loses : LosesStep (IsNextStep from.width from.state rows) h cell
   pub number : cell ≡ count_after (option_map length from.first) from.state.world h
@@ -88,7 +94,7 @@ abbrev pub FailsAt : Option (List ℕ) → Origin → List InRow → Drive → D
 FailsAt None from rows old new h cell = ⊥
 FailsAt (Some file) from rows old new h cell = AppendFailed from rows old new h cell
 
--- why rows stop: memory ran out, and no append failed, or an append failed
+-- why rows stop: memory ran out and no append failed, or an append failed
 abbrev pub IsStop : Option (List ℕ) → Origin → List InRow → Drive → Drive → List Entry → Refusal → Type 0
 IsStop log from rows old new h refusal.Memory = failed_cell h ≡ None
 IsStop log from rows old new h (refusal.Disk (Some cell)) = FailsAt log from rows old new h cell
@@ -98,37 +104,46 @@ IsStop log from rows old new h _ = ⊥
 abbrev pub EndsRows : (Refusal → Type 0) → ℕ → Output → Output → Type 0
 EndsRows Cause status old new = ((status ≡ 0) × (new.faults ≡ old.faults)) ⊎ (((status ≡ 6) × Rose old.faults new.faults) ⊎ EndsRefused Cause status old new)
 
--- the drive of a play over no log is left as it was; over a log its bytes showed no fault
+-- without a log the drive is unchanged; with one, its bytes have no fault
 abbrev pub HasBook : {D : Type 0} → Option (List ℕ) → Targets D → Targets D → Type 0
 HasBook None old new = new.disk ≡ old.disk
 HasBook (Some file) old new = (bytes : List ℕ) (fault : OpenFault) → old.drive.bytes ≡ Some bytes → IsInBytes fault → IsLogFault oldest_played most_played bytes fault → ⊥
 
--- over a log its file is attached, once, and none is made
+-- the file of the log was attached once, and not created
 abbrev pub IsAttached : Option (List ℕ) → Drive → Drive → Type 0
 IsAttached None old new = ⊤
 IsAttached (Some file) old new = AttachedOne file false old new
 
--- The rows are answered from one origin on. The drive's count rises with status 7 alone, and no device call was made behind one that failed.
+-- The rows were played, all of them or until a refusal. Each field is about the one history `h`.
 pub record IsAnswered {D : Type 0} (report : Report) (log : Option (List ℕ)) (size : ℕ) (rows : List InRow) (old new : Targets D) (status : ℕ) (h : List Entry) : Type 0 where
   pub from : Origin
+  -- without a log the rows begin with no objects, and else with the state of the log's records
   pub begins : IsOrigin log old.drive from
   pub book : HasBook log old new
+  -- the history is legal, and each line has the answer of one plain list of objects
   pub one_list : AnswersAsOneList report from.width from.state rows h status old.output new.output
+  -- all lines are written, or the sink failed, or memory ran out, or an append failed
   pub ends : EndsRows (IsStop log from rows old.drive new.drive h) status old.output new.output
+  -- if lines are written, no split is open, and no leaf is over the size while there is room
   pub splits : WritesLines status → SplitsAreDone from.width size from.state (option_map length from.first) h
+  -- however the rows end, the history and the log stay below their limits
   pub limits : IsWithinLimits from.width size from.state (option_map length from.first) rows h
+  -- a crash at any moment leaves the first records and a prefix of the history's, with no gap
   pub crash : KeepsPlayed from old.drive new.drive status h
+  -- unless the drive stopped the run, the log has exactly the first records and the history's
   pub text : KeepsText from old.drive new.drive status h
+  -- no device call was made after one that failed
   pub calls : StopsAtFault old.drive new.drive
+  -- the drive's fault count rises only with status 7
   pub calm : status ≢ 7 → new.drive.faults ≡ old.drive.faults
   pub attached : IsAttached log old.drive new.drive
 
--- how rows go that were read: there is no book for them, or they are answered
+-- what happens to rows that were read: there is no book for them, or they are played
 abbrev pub PlaysRows : {D : Type 0} → Report → Option (List ℕ) → ℕ → List InRow → Targets D → Targets D → ℕ → List Entry → Type 0
 PlaysRows report log size rows old new status h = IsLogUnopened log old new status h ⊎ IsAnswered report log size rows old new status h
 
--- The source gave no rows: none is called, the drive is left as it was, and the source's count where it didn't fail. However much it has, at
--- most one byte behind the limit was taken of it.
+-- The source gave no rows. No row was called, the drive is unchanged, and so is the source's fault count unless the
+-- source failed. At most one byte beyond the limit was taken from the source.
 pub record IsInputUnread {D : Type 0} (before after : Input) (old new : Targets D) (status : ℕ) (h : List Entry) : Type 0 where
   pub none : h ≡ []
   pub disk : new.disk ≡ old.disk
@@ -136,17 +151,17 @@ pub record IsInputUnread {D : Type 0} (before after : Input) (old new : Targets 
   pub refused : EndsRefused (IsInputCause before after) status old.output new.output
   pub taken : ConsumesUpTo (most_bytes + 1) before.left after.left
 
--- all that the source had was read, and its rows were played
+-- all bytes of the source were read, and their rows were played
 pub record IsRead {D : Type 0} (log : Option (List ℕ)) (size : ℕ) (before after : Input) (old new : Targets D) (status : ℕ) (h : List Entry) : Type 0 where
   pub rows : List InRow
   pub read : ReadsInput before after rows
   pub plays : PlaysRows reports.Lines log size rows old new status h
 
--- how a play goes, of what its source gave and what it wrote to
+-- what a play does with its source, its sink and its drives
 abbrev pub Goes : {D : Type 0} → Option (List ℕ) → ℕ → Input → Input → Targets D → Targets D → ℕ → List Entry → Type 0
 Goes log size before after old new status h = IsInputUnread before after old new status h ⊎ IsRead log size before after old new status h
 
--- over a log a fault that its bytes show gives its refusal's status, unless the drive's count rose or memory ran out
+-- a fault of a log's bytes gives the status of its refusal, unless the drive failed or memory ran out
 abbrev pub FollowsLog : Option (List ℕ) → Drive → Drive → ℕ → Type 0
 FollowsLog None old new status = ⊤
 FollowsLog (Some file) old new status = (bytes : List ℕ) (fault : OpenFault) → old.bytes ≡ Some bytes → IsInBytes fault → IsLogFault oldest_played most_played bytes fault → (Rose old.faults new.faults → ⊥)
@@ -157,13 +172,17 @@ abbrev pub IsGood : Option (List ℕ) → Drive → Drive → Type 0
 IsGood None old new = ⊤
 IsGood (Some file) old new = IsGoodLog old new
 
--- What `play` promises. The second drive is left as it was. Bad input gives its refusal's status, and good input over a bad log that log's, unless a count rose or memory ran out.
--- Good input, a good log where there is one, and no fault give all lines, unless memory ran out.
+-- What `play` promises.
 pub record Plays {S D : Type 0} (log : Option (List ℕ)) (size : ℕ) (done : Done (Ends S D)) : Type 0 where
+  -- what happened to the source, the rows and the log
   pub goes : Goes log size done.old.input done.new.input done.old.to done.new.to done.status done.history
+  -- the second drive is unchanged
   pub other : done.new.to.other ≡ done.old.to.other
+  -- wrong input gives its refusal's status, unless the source failed or memory ran out
   pub input : (bytes : List ℕ) (why : Refusal) → done.old.input.left ≡ Some bytes → judged bytes ≡ Err why → (done.status ≡ status_of why) ⊎ ((done.status ≡ 5) ⊎ (done.status ≡ 9))
+  -- good input and a bad log give the log's status, unless a drive or the source failed or memory ran out
   pub follows : (bytes : List ℕ) (rows : List InRow) → done.old.input.left ≡ Some bytes → judged bytes ≡ Ok rows → (Rose done.old.input.faults done.new.input.faults → ⊥)
       → FollowsLog log done.old.to.drive done.new.to.drive done.status
+  -- good input and a good log, or none, give all lines if nothing failed, unless memory ran out
   pub complete : (bytes : List ℕ) (rows : List InRow) → done.old.input.left ≡ Some bytes → judged bytes ≡ Ok rows → (Rose done.old.input.faults done.new.input.faults → ⊥)
       → (Rose done.old.to.output.faults done.new.to.output.faults → ⊥) → IsGood log done.old.to.drive done.new.to.drive → (done.status ≡ 0) ⊎ (done.status ≡ 9)

@@ -11,24 +11,24 @@ use Rattle.run_ends.specs.Ends.{Ends, Done, Targets, IsUnread}
 use Rattle.run_ends.specs.Taking.{Refuses}
 use Rattle.play_run.specs.Playing.{PlaysRows, FollowsLog, IsGood}
 
--- memory ran out before the rows were made: none is called, and the drive is left as it was
+-- memory ran out before the rows were made, so no row was called and the drive is unchanged
 pub record IsUnmade {D : Type 0} (old new : Targets D) (status : ℕ) (h : List Entry) : Type 0 where
   pub none : h ≡ []
   pub disk : new.disk ≡ old.disk
   pub refused : Refuses refusal.Memory status old.output new.output
 
--- how a trial goes: its rows aren't made, or they are played, and what they come to is told
+-- what a trial does: its rows aren't made, or they are played and three numbers are written
 abbrev pub PlaysMade : {D : Type 0} → Option (List ℕ) → Made → Targets D → Targets D → ℕ → List Entry → Type 0
 PlaysMade log made old new status h = IsUnmade old new status h ⊎ PlaysRows reports.Summary log trial_bucket (made_rows made.rows made.seed) old new status h
 
--- A bad log gives its status, unless the drive's count rose or memory ran out. A good log where there is one, and no fault, give all lines,
--- unless memory ran out. The second drive is left as it was.
+-- A fault of the log's bytes gives its status, unless the drive failed or memory ran out. If there was no fault, and
+-- the log is good or there is none, all lines are written, unless memory ran out. The second drive is unchanged.
 pub record TriesRows {D : Type 0} (log : Option (List ℕ)) (made : Made) (done : Done (Targets D)) : Type 0 where
   pub goes : PlaysMade log made done.old done.new done.status done.history
   pub follows : FollowsLog log done.old.drive done.new.drive done.status
   pub complete : (Rose done.old.output.faults done.new.output.faults → ⊥) → IsGood log done.old.drive done.new.drive → (done.status ≡ 0) ⊎ (done.status ≡ 9)
   pub other : done.new.other ≡ done.old.other
 
--- What `trial` promises. The source isn't read.
+-- What `trial` promises. The source is unread.
 abbrev pub Tries : {S D : Type 0} → Option (List ℕ) → Made → Done (Ends S D) → Type 0
 Tries log made done = IsUnread (TriesRows log made) done

@@ -1,4 +1,4 @@
--- What only proofs need: books over which rows are played, and lanes.
+-- What only proofs need: books on which rows are played, and lanes.
 pub mod Dealt
 pub mod Joined
 pub mod Answered

@@ -1,4 +1,4 @@
-//! A lane for each session that has a row, and what lanes leave once their passes are joined.
+//! Deals a lane to each session that has a row, and joins the lanes' passes afterwards.
 ghost use Rattle.std.specs.Prelude.{◌≡◌, ℕ, List, ◌+◌, ◌<◌, ◌≤◌, ◌++◌, [], length, vec_len, vec_capacity, false, IsTrue, IfOk, OnOk, OnErr};
 ghost use Rattle.lane_history.specs.Lanes.{AreCalmLanes};
 ghost use Rattle.play_run.specs.inside.Dealt.{HasDealt, AddsLane, AreParted};
@@ -18,15 +18,15 @@ use std::mem;
 /// How many sessions there are: their numbers are 1 to 16.
 pub(crate) const SESSIONS: u8 = 16;
 
-/// What a lane leaves: the rows of its session that were answered, from the first on.
+/// What a lane leaves: the answered rows of its session, from the first one on.
 #[derive(Drop)]
 pub(crate) struct LaneEnd {
     pub(crate) session: u8,
     pub(crate) kept: Vec<KeptRow>,
 }
 
-/// Makes a lane for each session that has a row, in the order of their numbers, with a pass that is split off. Where memory runs out the
-/// lanes that were made so far are there.
+/// Makes a lane for each session that has a row, in the order of their numbers. Each lane has a pass split off from
+/// `pass`. If memory runs out, `lanes` has the lanes that were made before.
 pub(crate) fn deal<I: Index, D: LogDisk, O: Start>(
     alloc: Global,
     store: &Store<I, D, O>,
@@ -50,7 +50,7 @@ pub(crate) fn deal<I: Index, D: LogDisk, O: Start>(
     Ok(())
 }
 
-// The rows of each session, with their numbers, in the order of the sessions.
+// The rows of each session with their numbers, at the index of the session less one.
 fn part_rows(alloc: Global, rows: &[InRow]) -> Result<Vec<Vec<(u32, Op)>>, AllocError>
     requires { AreInRows rows.now }
     ensures { IfOk result (λ own. AreParted (λ v. v.items) rows.now (length rows.now) own.items) }
@@ -64,7 +64,7 @@ fn part_rows(alloc: Global, rows: &[InRow]) -> Result<Vec<Vec<(u32, Op)>>, Alloc
     Ok(own)
 }
 
-// No rows for each session.
+// An empty list of rows for each session.
 fn no_rows(alloc: Global) -> Result<Vec<Vec<(u32, Op)>>, AllocError>
     ensures { (rows : List InRow) → IfOk result (λ own. AreParted (λ v. v.items) rows 0 own.items) }
 {
@@ -77,7 +77,7 @@ fn no_rows(alloc: Global) -> Result<Vec<Vec<(u32, Op)>>, AllocError>
     Ok(own)
 }
 
-// Makes a lane, which has room for all answers to its rows. Where memory runs out its pass is joined back.
+// Makes a lane with room for all answers to its rows. If memory runs out, its pass is joined back.
 fn add_lane<I: Index, D: LogDisk, O: Start>(
     alloc: Global,
     store: &Store<I, D, O>,
@@ -117,7 +117,7 @@ fn add_lane<I: Index, D: LogDisk, O: Start>(
     }
 }
 
-/// Joins the passes of all lanes, and gives what the lanes leave, the last lane first.
+/// Joins the passes of all lanes, and returns what the lanes leave, the last lane first.
 pub(crate) fn gather<I: Index, D: LogDisk, O: Start>(
     store: &Store<I, D, O>,
     pass: &mut Pass<SharedBook<I, D, O>>,
@@ -145,7 +145,7 @@ pub(crate) fn gather<I: Index, D: LogDisk, O: Start>(
     lanes.destroy_empty();
 }
 
-/// Whether no lane met a fault.
+/// Whether no lane had a fault.
 pub(crate) fn are_calm<I: Index, D: LogDisk, O: Start>(lanes: &[Lane<I, D, O>]) -> bool
     ensures { IsTrue result → AreCalmLanes lanes.now }
 {

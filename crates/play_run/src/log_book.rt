@@ -1,4 +1,4 @@
-//! The log in a file, opened, and a book over it.
+//! Opens the log in a file, and creates a book on it.
 ghost use Rattle.std.specs.Prelude.{◌≡◌, Some, None, IfOk, IfErr};
 ghost use Rattle.kept_log.specs.Kept.{IsOpened, found_state};
 ghost use Rattle.recovery.specs.Found.{IsFound};
@@ -14,7 +14,7 @@ use recovery::{OpenRefused, Opened, OpenedLog, open_log};
 use run_ends::{MOST_PLAYED, Refusal, Unmade, attach, log_refusal};
 use std::alloc::Global;
 
-/// The log of the newest version in a file of this name, opened by the width that it has.
+/// Opens the log in a file of this name, if it has the newest version, with the width that it has.
 pub(crate) fn open_file<D: LogDisk>(
     alloc: Global,
     file: &str,
@@ -36,7 +36,7 @@ pub(crate) fn open_file<D: LogDisk>(
     }
 }
 
-/// A book that goes on with a log as it was opened, with buckets of this size.
+/// Creates a book on an opened log. `size` is the bucket size in rows.
 pub(crate) fn book_of<I: Index, D: LogDisk>(
     alloc: Global,
     opened: Opened<D>,

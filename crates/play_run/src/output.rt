@@ -1,4 +1,4 @@
-//! What rows come to: the lines of their answers, or three numbers.
+//! Writes the lines of rows, or their three numbers.
 ghost use Rattle.std.specs.Prelude.{◌≡◌, List, length};
 ghost use Rattle.causes.specs.Causes.{Counts};
 ghost use Rattle.io_edge.specs.Puts.{Puts};
@@ -25,7 +25,7 @@ use table_share::{Sums, sum_up};
 // One more than the highest number of a session.
 const SLOTS: usize = 17;
 
-/// Writes what a report tells of rows that were all answered: with what the lanes of their sessions kept, or with the objects of an index.
+/// Writes the report of rows that were all answered, from what the lanes kept or from the objects of an index.
 pub(crate) fn tell_report<K: Sink, I: Index>(
     sink: &mut K,
     report: Report,
@@ -46,7 +46,7 @@ pub(crate) fn tell_report<K: Sink, I: Index>(
     }
 }
 
-// What so many rows come to, with the objects of an index.
+// The three numbers of this many rows and of the objects of an index.
 fn summary_of<I: Index>(rows: usize, index: &I) -> Summary
     ensures { (world : World) → HasObjects (I.leaves index.now) world → result ≡ summary_of rows world }
 {
@@ -58,7 +58,7 @@ fn summary_of<I: Index>(rows: usize, index: &I) -> Summary
     }
 }
 
-// The numbers of an index. Nobody asks in how many steps.
+// Counts the objects of an index and adds up their keys. The count of steps is dropped.
 fn count_objects<I: Index, L: Ledger>(index: &I, blank: Blank) -> Sums
     requires name { blank.name ≡ L.name }
     requires parts { blank.parts ≡ L.parts }
@@ -69,7 +69,8 @@ fn count_objects<I: Index, L: Ledger>(index: &I, blank: Blank) -> Sums
     sum_up(index, &mut steps)
 }
 
-// Writes the first line, and a line for each row, in the order of the rows, with the place and the answer that the lane of its session kept.
+// Writes the title and a line for each row, in the order of the rows. Each line has the place and the answer that the
+// lane of the row's session kept.
 fn write_lines<K: Sink>(sink: &mut K, rows: &[InRow], ends: &[LaneEnd]) -> Result<(), SinkFault>
     requires rows { AreInRows rows.now }
     requires numbers { HasNumbers rows.now ends.now }

@@ -1,4 +1,4 @@
-//! Rows that are played over a book, and how that ends.
+//! Plays rows on a book, and writes their report.
 ghost use Rattle.std.specs.Prelude.{◌≡◌, IfSome};
 ghost use Rattle.std.specs.Option.{option_map};
 ghost use Rattle.csv_rows.specs.InRows.{AreInRows};
@@ -23,10 +23,10 @@ use std::marker::Brand;
 use std::sync::Wait;
 use std::thread::Threads;
 
-// In buckets of 64 a split has its two steps after some 32 puts.
+// A bucket of 64 rows is split after about 32 puts, and a split has two steps.
 const ROWS_A_STEP: usize = 16;
 
-/// What rows leave that were played over a book: the status that tells of them, their history, and the drive of the log where there is one.
+/// What rows on a book leave: the status of the report, the history, and the drive of the log, if there is one.
 #[derive(Drop)]
 pub(crate) struct Told<D: LogDisk> {
     pub(crate) status: u8,
@@ -34,7 +34,7 @@ pub(crate) struct Told<D: LogDisk> {
     pub(crate) disk: Option<D>,
 }
 
-/// Plays rows over a book with no entries so far, and tells what a report tells of them.
+/// Plays rows on a book without entries, and writes their report.
 pub(crate) fn play_and_tell<
     R: Threads + Wait + Sync,
     I: Index + Send,
@@ -60,7 +60,7 @@ pub(crate) fn play_and_tell<
     tell_book(report, rows, played, sink)
 }
 
-// Tells what a report tells of rows that were played over a book, and gives what the book held.
+// Writes the report of rows that were played on a book, and takes the book apart.
 fn tell_book<I: Index, K: Sink, D: LogDisk>(
     report: Report,
     rows: &[InRow],
@@ -89,7 +89,7 @@ fn tell_book<I: Index, K: Sink, D: LogDisk>(
     }
 }
 
-// Writes what a report tells of rows that were all answered, or the line of a refusal.
+// Writes the report of rows that were all answered, or the line of a refusal.
 fn tell_end<I: Index, K: Sink>(
     report: Report,
     rows: &[InRow],

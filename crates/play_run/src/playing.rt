@@ -1,4 +1,4 @@
-//! The command `play`: answers the rows of a source, and over a log keeps what they change.
+//! The command `play`: answers the rows of a source, and keeps their changes in a log, if there is one.
 ghost use Rattle.std.specs.Prelude.{◌≡◌, ℕ, List, true, Some, None, is_some};
 ghost use Rattle.csv_rows.specs.InRows.{AreInRows};
 ghost use Rattle.kept_log.specs.Kept.{IsOpened, found_state};
@@ -26,7 +26,8 @@ use std::alloc::Global;
 use std::sync::Wait;
 use std::thread::Threads;
 
-/// Plays the rows of a source, over the log of version 2 in a file of this name or over none, with buckets of this size.
+/// Plays the rows of a source, on the log of version 2 in a file of this name or without a log. `size` is the bucket
+/// size in rows.
 pub fn play<R: Threads + Wait + Sync, S: Source, K: Sink, D: LogDisk + Send, G: Gate + Sync>(
     rt: &R,
     alloc: Global,
@@ -59,7 +60,7 @@ pub fn play<R: Threads + Wait + Sync, S: Source, K: Sink, D: LogDisk + Send, G: 
     }
 }
 
-/// Plays rows, over the log in a file of this name or over none, and tells what a report tells of them.
+/// Plays rows, on the log in a file of this name or without a log, and writes their report.
 pub(crate) fn play_rows<R: Threads + Wait + Sync, K: Sink, D: LogDisk + Send, G: Gate + Sync>(
     rt: &R,
     alloc: Global,
@@ -111,7 +112,7 @@ fn over_none<R: Threads + Wait + Sync, K: Sink, D: LogDisk + Send, G: Gate + Syn
     }
 }
 
-// Plays rows over the log in a file, by the width that it has.
+// Plays rows on the log in a file, with the width that the log has.
 fn over_log<R: Threads + Wait + Sync, K: Sink, D: LogDisk + Send, G: Gate + Sync>(
     rt: &R,
     alloc: Global,
@@ -145,7 +146,7 @@ fn over_log<R: Threads + Wait + Sync, K: Sink, D: LogDisk + Send, G: Gate + Sync
     }
 }
 
-// Plays rows over a log as it was opened, with an index whose splits are as wide. The other drive is passed on.
+// Plays rows on an opened log, with an index of the log's width. The other drive is passed on.
 fn over_opened<
     R: Threads + Wait + Sync,
     I: Index + Send,
@@ -181,7 +182,7 @@ fn over_opened<
     }
 }
 
-// What rows leave over a log, which has its drive.
+// The end of a command on a log, which has its drive.
 fn with_drive<D: LogDisk>(told: Told<D>, other: D) -> Ended<D>
     requires { is_some told.disk ≡ true }
     ensures told { told ≡ record { status = result.status; history = result.history; disk = Some result.drives.disk } }

@@ -1,4 +1,4 @@
-//! Rows that are played over a store, each session in a lane of its own.
+//! Plays rows on a store, each session in a lane of its own.
 ghost use Rattle.std.specs.Prelude.{◌≡◌, ◌⊎◌, ◌+◌, ◌≤◌, [], false, IfSome};
 ghost use Rattle.csv_rows.specs.InRows.{AreInRows};
 ghost use Rattle.commit_book.specs.IsBook.{IsBook};
@@ -21,15 +21,15 @@ use std::alloc::Global;
 use std::sync::Wait;
 use std::thread::Threads;
 
-/// The book of rows that were played, with their history, and what the lanes left where each row was answered and the splits at the end
-/// were settled.
+/// The book after its rows were played, with their history. `ends` is what the lanes left, if each row was answered and
+/// the splits at the end were settled.
 #[derive(Drop)]
 pub(crate) struct Played<I: Index, D: LogDisk> {
     pub(crate) book: Book<I, D>,
     pub(crate) ends: Option<Vec<LaneEnd>>,
 }
 
-/// Plays rows over a book without entries. Where there is nothing of the lanes, an append failed or memory ran out.
+/// Plays rows on a book without entries. If `ends` is `None` afterwards, an append failed or memory ran out.
 pub(crate) fn play_sessions<
     R: Threads + Wait + Sync,
     I: Index + Send,
@@ -45,7 +45,7 @@ pub(crate) fn play_sessions<
     ensures book { IsBook D.drive I.WIDTH result.book }
     ensures starts { StartsAs D.drive O.unlogged O.is result.book.log }
 {
-    // The book tells what it keeps.
+    // Calling `events` makes known what holds of each book.
     let _events = book.events();
     match Store::<I, D, O>::new(alloc, book) {
         Ok((store, pass)) => play_store(rt, alloc, rows, store, pass, gate),
@@ -56,7 +56,7 @@ pub(crate) fn play_sessions<
     }
 }
 
-// Plays rows over a store, and closes it.
+// Plays rows on a store, and closes it.
 fn play_store<
     R: Threads + Wait + Sync,
     I: Index + Send,
@@ -84,7 +84,7 @@ fn play_store<
     let mut ends = Vec::new(alloc);
     let done = play_lanes(rt, alloc, rows, &store, &mut pass, &mut ends, gate);
     let book = store.close(pass);
-    // The book tells what it keeps.
+    // Calling `events` makes known what holds of each book.
     let _events = book.events();
     if !done {
         return Played { book, ends: None };
@@ -93,8 +93,8 @@ fn play_store<
     Played { book, ends }
 }
 
-// Plays rows in lanes and joins their passes, and settles the splits at the end where no lane met a fault. It tells whether each row was
-// answered and the splits are settled.
+// Plays rows in lanes and joins the lanes' passes. If no lane had a fault, the splits at the end are settled. Returns
+// whether each row was answered and the splits are settled.
 fn play_lanes<
     R: Threads + Wait + Sync,
     I: Index + Send,

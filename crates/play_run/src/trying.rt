@@ -1,4 +1,4 @@
-//! The command `trial`: plays rows that are made, and tells what they come to.
+//! The command `trial`: makes rows, plays them, and writes three numbers.
 ghost use Rattle.std.specs.Prelude.{◌≤◌};
 ghost use Rattle.run_ends.specs.Ends.{written_by};
 ghost use Rattle.command_words.specs.Asked.{file_of};
@@ -15,7 +15,7 @@ use std::alloc::Global;
 use std::sync::Wait;
 use std::thread::Threads;
 
-/// Plays made rows, over the log of version 2 in a file of this name or over none.
+/// Makes rows and plays them, on the log of version 2 in a file of this name or without a log.
 pub fn trial<R: Threads + Wait + Sync, K: Sink, D: LogDisk + Send, G: Gate + Sync>(
     rt: &R,
     alloc: Global,

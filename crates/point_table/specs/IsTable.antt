@@ -1,4 +1,4 @@
--- What holds of each table.
+-- The invariant of each table.
 use Rattle.std.specs.Prelude.{◌≡◌, ℕ, List}
 use Rattle.std.specs.List.{AllByRecursion}
 use Rattle.plain_list.specs.World.{places_of, IsWorld}
@@ -8,7 +8,7 @@ use Rattle.point_table.specs.Crowds.{crowded_of}
 use Rattle.point_table.specs.TableView.{TableView}
 use Rattle.point_table.specs.declared.table.PointTable.TheInside.{Inside}
 
--- the objects of the map are the rows of the leaves, and the leaves to be split are known
+-- the objects of the map are the rows of the leaves, and `crowded` has exactly the leaves that are to be split
 pub record IsTable {I P : Type 0} (leaves : I → List Leaf) (w : ℕ) (t : Inside I P) : Type 0 where
   pub world : IsWorld t.members
   pub rows : AllByRecursion (HasRowsOf (places_of t.members)) (leaves t.index)

@@ -1,4 +1,4 @@
--- Open splits, as a caller of a table names them.
+-- Open splits, as a caller of a table passes them.
 use Rattle.std.specs.Prelude.{List, map}
 use Rattle.plain_list.specs.State.{OpenSplit}
 use Rattle.point_table.specs.declared.crowded.Begun.{Begun}

@@ -1,4 +1,4 @@
--- What a change or a find makes of leaves and world.
+-- The leaves and the world after a change or a find.
 use Rattle.std.specs.Prelude.{◌≡◌, Bool, true, false, List, Result, Ok, Err, ⊤}
 use Rattle.bucket_versions.specs.Told.{Told}
 use Rattle.bucket_versions.specs.declared.commit.Undone.{Undone}
@@ -11,25 +11,26 @@ use Rattle.plain_list.specs.State.{OpenSplit}
 use Rattle.point_table.specs.Changes.{bases_of, AreSettled}
 use Rattle.point_table.specs.TableView.{TableView}
 
--- an operation that a table answers: a change or a find
+-- an operation that a table executes: a change or a find
 abbrev pub IsUpdate : Op → Type 0
 IsUpdate (Within region) = ⊥
 IsUpdate (Near at k) = ⊥
 IsUpdate _ = ⊤
 
--- the world after; the leaves keep their names, and their bases where their splits are open; else those that changed have no delta
+-- The world is the one after the operation. The leaves keep their names, and their bases if their splits are open.
+-- Every other leaf that changed has no delta.
 pub record Changes (splits : List OpenSplit) (old new : TableView) (after : World) : Type 0 where
   pub world : new.world ≡ after
   pub bases : bases_of splits new.leaves ≡ bases_of splits old.leaves
   pub settled : AreSettled splits old.leaves new.leaves
   pub size : new.size ≡ old.size
 
--- the answer of the world, and the world after
+-- the answer is that of the world, and the table has the world after it
 pub record Updates (splits : List OpenSplit) (old new : TableView) (op : Op) (answer : Answer) : Type 0 where
   pub answer_is : answer ≡ answer_of old.world op
   pub changes : Changes splits old new (after_of old.world op)
 
--- the step was taken where the operation changes the world; else it wasn't asked for, and the answer is sure
+-- if the operation changes the world, the step was taken; if not, the step was not called and the result is Ok
 abbrev pub TellsIf : {C A : Type 0} → (C → C → Type 0) → (C → C → Type 0) → Bool → C → C → Result A Undone → Type 0
 TellsIf done lost true old new result = Told done lost old new result
 TellsIf done lost false old new (Ok _) = new ≡ old

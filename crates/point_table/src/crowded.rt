@@ -1,4 +1,4 @@
-//! The leaves that are to be split, in the order of their keys.
+//! The names of the leaves that are to be split, in key order.
 ghost use Rattle.std.specs.Prelude.{◌≡◌, ◌==◌, ◌+◌, ◌-◌, ◌<◌, ◌≤◌, [], OnOk, length, vec_len, vec_capacity};
 ghost use Rattle.std.specs.List.{list_any};
 ghost use Rattle.zorder.specs.SameName.{same_name};
@@ -12,7 +12,7 @@ use std::alloc::{AllocError, Global};
 use std::marker::Model;
 use zorder::Name;
 
-/// A split that was begun and hasn't ended.
+/// A split that has begun and not ended.
 #[derive(Clone, Copy, Debug)]
 pub struct Begun {
     pub number: u64,
@@ -26,7 +26,7 @@ pub(crate) struct Mark {
     pub(crate) crowded: bool,
 }
 
-/// Names of leaves by their first keys, with room for those that are promised.
+/// Names of leaves in the order of their first keys, with memory for those that are promised.
 #[derive(Drop)]
 pub(crate) struct Crowded {
     names: Vec<Name>,
@@ -55,7 +55,7 @@ impl Crowded {
         }
     }
 
-    /// Names in the order of their keys, with no room for more.
+    /// Takes names in key order. There is no room for more until `reserve`.
     pub(crate) fn from_names(names: Vec<Name>) -> Crowded
         requires { AreRising names.items }
         ensures { result ≡ record { names = names.items; room = 0 } }
@@ -63,21 +63,20 @@ impl Crowded {
         Crowded { names, room: 0 }
     }
 
-    /// Whether there are no names.
     pub(crate) fn is_empty(&self) -> bool
         ensures { result ≡ (length self.now.names == 0) }
     {
         self.names.is_empty()
     }
 
-    /// The first name in the order of keys that has no open split.
+    /// The first name in key order that has no open split.
     pub(crate) fn first_free(&self, begun: &[Begun]) -> Option<Name>
         ensures { result ≡ first_free (splits_of begun.now) self.now.names }
     {
         free_among(&self.names, begun)
     }
 
-    /// Takes the memory of so many names more.
+    /// Makes room for this many more names, at most 4. On `Err` the names are unchanged and there is no room.
     pub(crate) fn reserve(&mut self, names: usize) -> Result<(), AllocError>
         requires { names ≤ 4 }
         ensures names { self.new.names ≡ self.old.names }
@@ -89,7 +88,8 @@ impl Crowded {
         Ok(())
     }
 
-    /// Puts a name in its place, or takes out the one with its first key.
+    /// Inserts a name if its leaf is crowded, or removes the one with the same first key if not. Uses one place of the
+    /// room.
     pub(crate) fn set(&mut self, name: &Name, crowded: bool)
         requires { 0 < self.old.room }
         ensures { self.new ≡ record { names = remarked crowded name.now self.old.names; room = self.old.room - 1 } }
@@ -102,7 +102,7 @@ impl Crowded {
         }
     }
 
-    /// Sets the names of leaves, the last leaf's first.
+    /// Sets the name of each leaf, the last one first.
     pub(crate) fn set_each(&mut self, mut marks: Vec<Mark>)
         requires { length marks.items ≤ self.old.room }
         ensures { self.new ≡ record { names = remarked_each marks.items self.old.names; room = self.old.room - length marks.items } }
@@ -124,7 +124,7 @@ fn free_among(names: &[Name], begun: &[Begun]) -> Option<Name>
     None
 }
 
-/// Whether an open split is of this name.
+/// Whether a split of this name is open.
 pub fn is_among(begun: &[Begun], name: &Name) -> bool
     ensures { result ≡ is_splitting (splits_of begun.now) name.now }
 {
@@ -146,7 +146,7 @@ fn place_of(names: &[Name], name: &Name) -> usize
     names.partition_point(|other| other.bits() < key)
 }
 
-// Whether the name at a place has this key.
+// Whether the name at this index has this first key.
 fn has_key(names: &[Name], place: usize, key: u64) -> bool
     ensures { result ≡ has_key place key names.now }
 {

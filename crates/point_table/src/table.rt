@@ -1,4 +1,4 @@
-//! An index and a map by id that stand for one world.
+//! A table: an index by key and a map by id that stand for one world.
 ghost use Rattle.std.specs.Prelude.{◌≡◌, ℕ, ◌+◌, ◌-◌, ◌<◌, ◌≤◌, ◌∷◌, [], true, false, IfOk, OnOk, OnErr, MatchOption, length};
 ghost use Rattle.std.specs.Arc.{arc_value};
 ghost use Rattle.std.specs.List.{AllByRecursion};
@@ -31,17 +31,17 @@ use std::marker::Model;
 use std::sync::Arc;
 use zorder::{Memory, Name, begins, key};
 
-/// Objects, by their ids and by their keys.
+/// Objects by id and by key.
 #[derive(Drop)]
 pub struct PointTable<I: Index> {
     alloc: Global,
-    /// The objects by their keys.
+    /// The objects by key.
     index: I,
-    /// The objects by their ids, with their moments.
+    /// The objects by id, with their moments.
     members: MemberShards,
-    /// The leaves over the bucket size, of which the first is split next.
+    /// The leaves over the bucket size. The first without an open split is split next.
     crowded: Crowded,
-    /// The bucket size: so many rows a leaf may have before it is to be split.
+    /// The bucket size: a leaf with more rows than this is to be split.
     size: u32,
 }
 
@@ -58,7 +58,7 @@ impl<I: Index> Model for PointTable<I> {
 }
 
 impl<I: Index> PointTable<I> {
-    /// A table of no objects, with one leaf.
+    /// A table without objects, with one leaf of the empty name. `size` is in rows.
     pub fn fresh(alloc: Global, size: u32) -> Result<PointTable<I>, Memory>
         ensures world { IfOk result (λ t. t.world ≡ []) }
         ensures leaves { IfOk result (λ t. names_of t.leaves ≡ [] ∷ []) }
@@ -75,14 +75,14 @@ impl<I: Index> PointTable<I> {
         })
     }
 
-    /// The first leaf in key order that is over the size, has bits left and none of these open splits.
+    /// The leaf to split next: the first in key order that is over the size, has bits left and has no open split.
     pub fn first_free(&self, begun: &[Begun]) -> Option<Name>
         ensures { result ≡ first_over I.WIDTH (splits_of begun.now) self.now }
     {
         self.crowded.first_free(begun)
     }
 
-    /// How many objects there are.
+    /// How many objects the table has. The other clauses state what holds of each table.
     pub fn len(&self) -> usize
         ensures len { result ≡ length self.now.world }
         ensures world { IsWorld self.now.world }
@@ -92,28 +92,28 @@ impl<I: Index> PointTable<I> {
         self.members.len()
     }
 
-    /// The objects as one list.
+    /// Copies the objects into one list.
     pub fn to_world(&self) -> Result<World, Memory>
         ensures { IfOk result (λ world. world ≡ self.now.world) }
     {
         Ok(self.members.to_world()?)
     }
 
-    /// The names of the leaves.
+    /// The names of the leaves, in key order.
     pub fn leaf_names(&self) -> Result<Vec<Name>, Memory>
         ensures { IfOk result (λ names. names.items ≡ names_of self.now.leaves) }
     {
         leaf_names(self.alloc, &self.index)
     }
 
-    /// What is kept of an object.
+    /// The stored position and moment of an object, or `None` if no object has the id.
     pub fn position(&self, id: u64) -> Option<Stamped>
         ensures { result ≡ position_of self.now.world id }
     {
         self.members.position(id)
     }
 
-    /// Whether an operation would change the world.
+    /// Whether an operation would change the world. Finds and queries never do.
     pub fn would_change(&self, op: &Op) -> bool
         ensures { result ≡ is_change (answer_of self.now.world op.now) }
     {
@@ -130,7 +130,8 @@ impl<I: Index> PointTable<I> {
         }
     }
 
-    /// Answers a change or a find, where these splits are open. A change is made once the step has succeeded.
+    /// Executes a change or a find while the splits in `begun` are open. The table changes only after `commit`
+    /// succeeded, and a find calls no `commit`.
     #[tactic(auto, using(crate::proofs::Settled::settled_same))]
     pub fn update<C: Commit>(
         &mut self,
@@ -172,7 +173,7 @@ impl<I: Index> PointTable<I> {
         if self.is_full() {
             return Ok(self.full(id));
         }
-        // The map goes first, and back where the index can't follow: so the object is looked for once.
+        // The map is changed first, and changed back if the index refuses. So the id is looked up only once.
         if let Some(there) = self.members.insert(id, to)? {
             self.members.replace(id, there);
             return Ok(Answer::Present(there));
@@ -200,7 +201,7 @@ impl<I: Index> PointTable<I> {
         self.len() >= MOST_MEMBERS
     }
 
-    // What a put is answered in a full world.
+    // The answer to a put in a full world.
     fn full(&self, id: u64) -> Answer
         requires { is_full self.now.world ≡ true }
         ensures { (at : Point) (moment : ℕ) → result ≡ answer_of self.now.world (Op.Put id at moment) }
@@ -224,7 +225,8 @@ impl<I: Index> PointTable<I> {
         ensures err { OnErr result (self.new ≡ self.old) }
         ensures told { TellsIf C.done C.lost (is_change (answer_of self.old.world (Op.Move id to.at to.moment))) commit.old commit.new result }
     {
-        // The map goes first, and back where the move is stale or can't be made: so the object is looked for once where it moves.
+        // The map is changed first, and changed back if the move is stale or fails. So the id is looked up only once if
+        // it moves.
         let Some(old) = self.members.replace(id, to) else {
             return Ok(Answer::Absent);
         };
@@ -233,7 +235,7 @@ impl<I: Index> PointTable<I> {
             return Ok(Answer::Stale(old));
         }
         if old.at == to.at {
-            // The rows stay: no index is asked, and the step is taken here.
+            // The rows are unchanged, so the step is taken here and not by the index.
             if !commit.commit() {
                 self.members.replace(id, old);
                 return Err(Undone::Lost);
@@ -299,7 +301,7 @@ impl<I: Index> PointTable<I> {
         }
     }
 
-    /// An equal index.
+    /// An equal index. The other clauses state what holds of each table.
     pub fn share(&self) -> Result<I, Memory>
         ensures index { IfOk result (λ index. I.leaves index ≡ self.now.leaves) }
         ensures world { IsWorld self.now.world }
@@ -316,7 +318,7 @@ impl<I: Index> PointTable<I> {
         matches!(self.index.part(name), Part::Leaf(_))
     }
 
-    /// The bucket of the leaf of this name.
+    /// The bucket of the leaf with this name.
     pub fn bucket(&self, name: &Name) -> Option<&Arc<Bucket>>
         ensures { MatchOption result (has_name name.now self.now.leaves ≡ false) (λ b. HasBucket name.now self.now (arc_value b.now)) }
     {
@@ -327,7 +329,7 @@ impl<I: Index> PointTable<I> {
         }
     }
 
-    /// The index of the table.
+    /// Gives up the table and keeps its index.
     pub fn into_index(self) -> I
         ensures { I.leaves result ≡ self.leaves }
     {
@@ -335,12 +337,12 @@ impl<I: Index> PointTable<I> {
     }
 }
 
-// A change of a row, which keeps the base of its leaf where that one's split is open.
+// A change of a row. It keeps the base of the row's leaf if a split of that leaf is open.
 fn change<I: Index>(index: &I, begun: &[Begun], row: Row) -> RowChange
     ensures row { result.row ≡ row }
     ensures keeps { KeepsAt (splits_of begun.now) (I.leaves index.now) row.key result.keeps_base }
 {
-    // Mostly no split is open, and no leaf is looked for.
+    // Usually no split is open, and then no leaf is looked up.
     if begun.is_empty() {
         return RowChange {
             row,
@@ -354,7 +356,7 @@ fn change<I: Index>(index: &I, begun: &[Begun], row: Row) -> RowChange
     }
 }
 
-// Puts a row, once there is room to mark its leaf and the step has succeeded, and answers how many rows that leaf has then.
+// Inserts a row after there is room to mark its leaf and the step succeeded. Returns how many rows that leaf has then.
 fn put_row<I: Index, C: Commit>(
     index: &mut I,
     crowded: &mut Crowded,
@@ -373,8 +375,8 @@ fn put_row<I: Index, C: Commit>(
     index.put_row(put, commit)
 }
 
-// Takes a row out and puts another one, once there is room to mark both leaves and the step has succeeded, and answers how many rows
-// the second one's leaf has then.
+// Removes a row and inserts another one, after there is room to mark both leaves and the step succeeded. Returns how
+// many rows the second row's leaf has then.
 fn move_row<I: Index, C: Commit>(
     index: &mut I,
     crowded: &mut Crowded,
@@ -394,7 +396,7 @@ fn move_row<I: Index, C: Commit>(
     index.move_row(gone, put, commit)
 }
 
-// Puts the leaf that a key is under among those that are to be split, or takes it out of them.
+// Marks the leaf of a key: inserts its name if it is to be split, and removes it if not.
 fn mark<I: Index>(crowded: &mut Crowded, index: &I, size: u32, key: u64)
     requires { 0 < crowded.old.room }
     ensures names { MarksAt key (I.leaves index.now) (λ l. mark_under I.WIDTH size l crowded.old.names) crowded.new.names }
@@ -405,7 +407,7 @@ fn mark<I: Index>(crowded: &mut Crowded, index: &I, size: u32, key: u64)
     crowded.set(&name, is_crowded);
 }
 
-// The same for a leaf that a row has left. Where no leaf is to be split that one isn't either, and isn't looked for.
+// Marks a leaf that a row has left. If no leaf is marked, this one isn't crowded either, and is not looked up.
 fn mark_left<I: Index>(crowded: &mut Crowded, index: &I, size: u32, key: u64)
     requires { 0 < crowded.old.room }
     ensures names { MarksAt key (I.leaves index.now) (λ l. left_under I.WIDTH size l crowded.old.names) crowded.new.names }
@@ -416,8 +418,8 @@ fn mark_left<I: Index>(crowded: &mut Crowded, index: &I, size: u32, key: u64)
     }
 }
 
-// The same for a leaf that a row has come to, which has so many then. Where these are no more than the size and no leaf is to be
-// split, that one isn't either, and isn't looked for.
+// Marks a leaf that got a row and has `count` rows now. If they are no more than the size and no leaf is marked, this
+// one isn't crowded either, and is not looked up.
 fn mark_come<I: Index>(crowded: &mut Crowded, index: &I, size: u32, key: u64, count: u64)
     requires room { 0 < crowded.old.room }
     requires count { CountAt key count (I.leaves index.now) }
@@ -428,7 +430,7 @@ fn mark_come<I: Index>(crowded: &mut Crowded, index: &I, size: u32, key: u64, co
     }
 }
 
-// The same for the leaf that a row has left, and then for that to which it has come: once where both are one.
+// Marks the leaf that a row has left, and then the leaf that got it. If both are one leaf, it is marked once.
 fn mark_two<I: Index>(crowded: &mut Crowded, index: &I, size: u32, from: u64, to: u64, count: u64)
     requires room { 2 ≤ crowded.old.room }
     requires count { CountAt to count (I.leaves index.now) }

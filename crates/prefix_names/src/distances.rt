@@ -1,4 +1,4 @@
-//! Squared distances.
+//! Squared Euclidean distances. Each is below 2^65, so a `u128` holds it.
 ghost use Rattle.std.specs.Prelude.{◌≡◌, ◌≤◌, ◌<◌, ◌*◌, IsTrue};
 ghost use Rattle.zorder.specs.declared.points.Point.{Point};
 ghost use Rattle.zorder.specs.Region.{has_point, IsBox};
@@ -6,7 +6,7 @@ ghost use Rattle.zorder.specs.Distance.{gap_to, distance, least_distance};
 
 use zorder::{Point, Region};
 
-/// The squared distance of two points.
+/// Returns the squared distance between two points.
 pub fn dist(a: Point, b: Point) -> u128
     ensures sum { result ≡ distance a b }
     ensures most { result ≤ 36893488130239234050 }
@@ -14,7 +14,7 @@ pub fn dist(a: Point, b: Point) -> u128
     square(a.x.abs_diff(b.x)) + square(a.y.abs_diff(b.y))
 }
 
-/// The squared distance from the nearest point of the region: 0 inside it.
+/// Returns the squared distance from a point to the nearest point of the region, which is 0 inside the region.
 pub fn least(region: &Region, from: Point) -> u128
     requires { IsBox region.now }
     ensures sum { result ≡ least_distance region.now from }
@@ -26,7 +26,7 @@ pub fn least(region: &Region, from: Point) -> u128
     square(x) + square(y)
 }
 
-// The gap from a number to an interval.
+// Returns the distance from a number to a closed interval.
 fn apart(lo: u32, hi: u32, n: u32) -> u32
     requires { lo ≤ hi }
     ensures { result ≡ gap_to lo hi n }

@@ -4,8 +4,9 @@ ghost use Rattle.prefix_names.specs.Regions.{region_of};
 
 use zorder::{Name, Point, Region};
 
-/// The regions of a name's children, that of bit 0 first. The bits of a key are those of x and of y in turn, so one axis is cut
-/// in the middle. A walk down that has the region of where it stands gets the next ones so, without their keys.
+/// Returns the regions of a name's two children, the child of bit 0 first. Key bits alternate between x and y, so one
+/// axis is cut in the middle. A walk down a trie that has a node's region gets the children's regions by `halves`,
+/// without their keys.
 pub fn halves(name: &Name, region: &Region) -> (Region, Region)
     requires room { length name.now < 64 }
     requires whole { region.now ≡ region_of name.now }
@@ -37,7 +38,7 @@ pub fn halves(name: &Name, region: &Region) -> (Region, Region)
     }
 }
 
-// From the lower corner to the first point, and from the second one to the upper corner.
+// Returns the box from the region's lower corner to `end`, and the box from `begin` to its upper corner.
 fn between(region: &Region, end: Point, begin: Point) -> (Region, Region)
     ensures zero { result.0 ≡ record { lo = region.now.lo; hi = end } }
     ensures one { result.1 ≡ record { lo = begin; hi = region.now.hi } }
@@ -53,7 +54,7 @@ fn between(region: &Region, end: Point, begin: Point) -> (Region, Region)
     (zero, one)
 }
 
-// The last number of the lower half of an interval, and the first of the upper one.
+// Returns the last number of an interval's lower half, and the first number of its upper half.
 fn cut(lo: u32, hi: u32) -> (u32, u32)
     requires { lo < hi }
     ensures end { result.0 ≡ lo + (hi - lo) / 2 }

@@ -1,4 +1,4 @@
-//! Boxes that are asked by keys.
+//! Boxes that are tested by keys.
 ghost use Rattle.std.specs.Prelude.{◌≡◌, ◌&&◌, nat_le};
 ghost use Rattle.zorder.specs.Key.{point_of, even_bits};
 ghost use Rattle.zorder.specs.Region.{has_point};
@@ -7,8 +7,8 @@ ghost use Rattle.prefix_names.specs.Regions.{box_of};
 
 use zorder::Region;
 
-/// A box, by the keys of its corners. Whether the point of a key is in it is told by the key's own bits, so that no point
-/// need be made for a key outside.
+/// A box, given by the Morton keys of its corners. `has` tests the bits of a key directly, so no point is computed for
+/// a key.
 #[derive(Clone, Copy, Debug)]
 pub struct KeyBox {
     pub lo: u64,
@@ -25,7 +25,7 @@ impl KeyBox {
         }
     }
 
-    /// Whether the point of a key is in the box.
+    /// Returns whether the point of a key is in the box.
     pub fn has(&self, key: u64) -> bool
         ensures { result ≡ has_point (box_of self.now) (point_of key) }
     {
@@ -33,8 +33,8 @@ impl KeyBox {
     }
 }
 
-// All tests are made, since which of them fails can't be foretold: a branch for each would cost more than they do.
-// Whether the number that the even places of a key make is one from the first to the last.
+// Returns whether the number that a key's even bits make is between the numbers of `first` and `last`. All tests are
+// computed without a branch. No branch predictor can foresee them, and a wrong guess costs more than the test.
 fn between(first: u64, key: u64, last: u64) -> bool
     ensures { result ≡ (nat_le (even_bits first) (even_bits key) && nat_le (even_bits key) (even_bits last)) }
 {
@@ -42,7 +42,8 @@ fn between(first: u64, key: u64, last: u64) -> bool
     (evens(first) <= bits) & (bits <= evens(last))
 }
 
-// The bits at even places, where they are: such numbers have the order of those that the bits make.
+// Keeps the bits at even places, without moving them. Such numbers have the same order as the numbers that the bits
+// make.
 fn evens(key: u64) -> u64
     ensures { result ≡ spread_bits (even_bits key) }
 {

@@ -1,4 +1,4 @@
-//! What a name stands for: its corners, and its first and last key.
+//! The region of a name, and its first and last key.
 ghost use Rattle.std.specs.Prelude.{◌≡◌, ◌≤◌, ◌<◌, ◌+◌, ◌-◌, ◌^◌, ◌&&◌, nat_le, ℕ, length};
 ghost use Rattle.zorder.specs.declared.points.Point.{Point};
 ghost use Rattle.zorder.specs.Key.{key_of, is_in, is_under, IsPoint};
@@ -9,7 +9,7 @@ ghost use Rattle.prefix_names.specs.Regions.{region_of};
 
 use zorder::{Name, Region, point};
 
-/// The points whose keys are under the name.
+/// Returns the box of the points whose keys are under the name.
 pub fn region(name: &Name) -> Region
     ensures value { result ≡ region_of name.now }
     ensures first { key_of result.lo ≡ first_key name.now }
@@ -24,7 +24,7 @@ pub fn region(name: &Name) -> Region
     }
 }
 
-/// The first and the last key under the name: its open bits filled with 0 and with 1.
+/// Returns the first and the last key under the name: the bits after the name are all 0 or all 1.
 pub fn key_range(name: &Name) -> (u64, u64)
     ensures first { result.0 ≡ first_key name.now }
     ensures last { result.1 + 1 ≡ next_key name.now }
@@ -35,7 +35,7 @@ pub fn key_range(name: &Name) -> (u64, u64)
     (first, first | low_mask(name.len()))
 }
 
-// Ones behind so many bits of 64.
+// Returns a mask with 0 in the highest `len` bits and 1 in the rest.
 fn low_mask(len: u8) -> u64
     requires { len ≤ 64 }
     ensures { result ≡ 2 ^ (64 - len) - 1 }

@@ -1,4 +1,4 @@
--- A split of the whole space into four, computed.
+-- A split of the whole space into four leaves, computed.
 use Rattle.std.specs.Prelude.{◌≡◌, true, false, [], ◌∷◌}
 use Rattle.std.proofs.Common.{refl}
 use Rattle.bucket_versions.specs.Rows.{Rows}
@@ -13,6 +13,6 @@ no_rows = record { base = []; rows = [] }
 names_after : names_of (leaves_under [] (graft [] (fours no_rows no_rows no_rows no_rows) (tip no_rows))) ≡ (false ∷ false ∷ []) ∷ (false ∷ true ∷ []) ∷ (true ∷ false ∷ []) ∷ (true ∷ true ∷ []) ∷ []
 names_after = refl
 
--- and the leaves are those of a split into four
+-- the leaves are those of a split into four
 leaves_after : leaves_under [] (fours no_rows no_rows no_rows no_rows) ≡ split 2 [] (no_rows ∷ no_rows ∷ no_rows ∷ no_rows ∷ []) (leaves_under [] (tip no_rows))
 leaves_after = refl

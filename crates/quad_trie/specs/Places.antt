@@ -1,13 +1,13 @@
--- Where a walk by single bits stands in a trie whose nodes stand for two.
+-- The position of a walk by single bits, in a trie whose nodes stand for two bits each.
 use Rattle.std.specs.Prelude.{◌≡◌, ◌⊎◌, ◌%◌, Bool, List, [], ◌∷◌, ◌++◌, length, Some}
 use Rattle.bit_trie.specs.Tries.{Trie, fork, reach}
 
--- a name of two bits a node leads to this
+-- a name with an even number of bits leads to `part`
 pub record AtNode (whole part : Trie) (name : List Bool) : Type 0 where
   pub even : length name % 2 ≡ 0
   pub at : reach name whole ≡ Some part
 
--- a name with one bit more leads into a node of two halves, which stands in for the half that the bit leads to
+-- a name with one more bit: the place is the node above, which has two halves, and the bit says which half is meant
 pub record Between (whole part : Trie) (name : List Bool) : Type 0 where
   pub front : List Bool
   pub bit : Bool
@@ -17,6 +17,6 @@ pub record Between (whole part : Trie) (name : List Bool) : Type 0 where
   pub one : Trie
   pub inner : part ≡ fork zero one
 
--- a place has this name
+-- the place `part` has this name
 abbrev pub IsAt : Trie → Trie → List Bool → Type 0
 IsAt whole part name = AtNode whole part name ⊎ Between whole part name

@@ -1,4 +1,4 @@
-//! Nodes of four under which all rows are in one quarter.
+//! Going down past nodes that have all their rows in one quarter.
 ghost use Rattle.std.specs.Prelude.{◌≡◌, ◌%◌, true, length, IfSome};
 ghost use Rattle.bit_trie.specs.Tries.{is_bare};
 ghost use Rattle.bit_trie.specs.Walks.{Narrows};
@@ -17,7 +17,7 @@ fn is_bare(node: &Node) -> bool
     }
 }
 
-// The two bits that lead to the one quarter that isn't a leaf without rows.
+// Returns the two bits of the only quarter that is not a leaf without rows, if there is exactly one.
 fn lone(quad: &Quad) -> Option<(bool, bool)>
     ensures { IfSome result (λ bits. is_lone quad.now bits.0 bits.1 ≡ true) }
 {
@@ -38,7 +38,7 @@ fn lone(quad: &Quad) -> Option<(bool, bool)>
     }
 }
 
-/// Goes down while three quarters are leaves without rows.
+/// Goes down as long as exactly three quarters are leaves without rows.
 pub(crate) fn narrowed(name: Name, node: &Node) -> (Name, &Node)
     ensures narrows { Narrows name result.0 (seen node.now) (seen result.1.now) }
     ensures even { length result.0 % 2 ≡ length name % 2 }

@@ -1,4 +1,4 @@
-//! Nodes: a leaf's bucket, or what is under each pair of next bits.
+//! The nodes of the trie: a leaf's bucket, or four children.
 ghost use Rattle.std.specs.Prelude.{◌≡◌, ◌≤◌, ◌<◌, ◌+◌, ◌-◌, ◌^◌, ◌%◌, false, true, min, Some, length, IfOk, OnOk, OnErr};
 ghost use Rattle.std.specs.Arc.{arc_value};
 ghost use Rattle.std.specs.Borrow.{sem};
@@ -15,7 +15,7 @@ use bucket_versions::{Bucket, Commit, Undone, own};
 use std::alloc::{AllocError, Global};
 use std::sync::Arc;
 
-/// A leaf's bucket, or what is under the next two bits.
+/// A leaf's bucket, or the four nodes for the next two bits.
 #[derive(Drop)]
 #[cycle(trie)]
 pub enum Node {
@@ -23,7 +23,7 @@ pub enum Node {
     Inner(Arc<Quad>),
 }
 
-/// What is under the next bits 00, 01, 10 and 11.
+/// The nodes for the next bits 00, 01, 10 and 11.
 #[derive(Drop)]
 #[cycle(trie)]
 pub struct Quad {
@@ -34,7 +34,7 @@ pub struct Quad {
 }
 
 impl Node {
-    /// An equal node, which shares all below.
+    /// Returns an equal node, which shares all nodes below.
     pub(crate) fn share(&self) -> Result<Node, AllocError>
         ensures { IfOk result (λ n. seen n ≡ seen self.now) }
     {
@@ -46,7 +46,7 @@ impl Node {
 }
 
 impl Quad {
-    /// The quarter that two bits lead to.
+    /// Returns the quarter for two bits.
     pub(crate) fn quarter(&self, high: bool, low: bool) -> &Node
         ensures { seen result.now ≡ quarter_of self.now high low }
     {
@@ -58,7 +58,7 @@ impl Quad {
         }
     }
 
-    /// How many rows are under a bit, at most what 64 bits hold.
+    /// Returns the number of rows in the two quarters of a bit, at most 2^64 - 1.
     pub(crate) fn count_half(&self, high: bool) -> u64
         ensures { result ≡ min (rows_in (quarter_of self.now high false) + rows_in (quarter_of self.now high true)) (2 ^ 64 - 1) }
     {
@@ -71,7 +71,7 @@ impl Quad {
 impl Clone for Quad {
     ghost is_clone = { λ quad copy. four copy ≡ four quad };
 
-    // Equal quarters, for who changes them.
+    // Copies the node, for a caller that changes the copy. The nodes below are shared.
     fn clone(&self) -> Result<Quad, AllocError> {
         let zero_zero = self.zero_zero.share()?;
         let zero_one = self.zero_one.share()?;
@@ -86,7 +86,7 @@ impl Clone for Quad {
     }
 }
 
-/// Whether two keys go on with the same two bits.
+/// Returns whether the next two bits of two keys are the same.
 pub(crate) fn go_together(from: u64, to: u64, left: u8) -> bool
     requires some { 1 < left }
     requires most { left ≤ 64 }
@@ -97,7 +97,7 @@ pub(crate) fn go_together(from: u64, to: u64, left: u8) -> bool
     high && low
 }
 
-// The quarter that two bits lead to, to write to.
+// Returns the quarter for two bits, to write to.
 #[inline(always)]
 pub(crate) fn quarter_mut(quad: &mut Quad, high: bool, low: bool) -> &mut Node
     ensures* lends { sem 𝓛 (LendsQuarter quad.entry high low result) }
@@ -118,7 +118,7 @@ pub(crate) fn quarter_mut(quad: &mut Quad, high: bool, low: bool) -> &mut Node
     }
 }
 
-/// Puts a node in the place of the leaf that the last `left` bits of a key lead to, once the step has succeeded.
+/// Replaces the leaf to which the last `left` bits of a key lead by a node, once the step has succeeded.
 pub(crate) fn graft<C: Commit>(
     node: &mut Node,
     key: u64,
@@ -149,7 +149,7 @@ pub(crate) fn graft<C: Commit>(
     }
 }
 
-/// Four leaves of these buckets.
+/// Returns a node with four leaves.
 pub(crate) fn fours(
     alloc: Global,
     first: Arc<Bucket>,
@@ -168,7 +168,7 @@ pub(crate) fn fours(
     Ok(Node::Inner(Arc::new(alloc, quad)?))
 }
 
-/// How many rows are under a node, at most what 64 bits hold.
+/// Returns the number of rows below a node, at most 2^64 - 1.
 pub(crate) fn count(node: &Node) -> u64
     ensures { result ≡ min (rows_in (seen node.now)) (2 ^ 64 - 1) }
 {
@@ -181,7 +181,7 @@ pub(crate) fn count(node: &Node) -> u64
     zero.saturating_add(one)
 }
 
-/// The bucket that the last `left` bits of a key lead to, and how many bits are left there.
+/// Returns the bucket to which the last `left` bits of a key lead, and how many bits are left at its leaf.
 pub(crate) fn leaf_of(node: &Node, key: u64, left: u8) -> (u8, &Arc<Bucket>)
     requires fits { Fits left (seen node.now) }
     ensures bucket { bucket_at (low_bits left key) (seen node.now) ≡ Some (arc_value result.1.now) }
@@ -197,7 +197,8 @@ pub(crate) fn leaf_of(node: &Node, key: u64, left: u8) -> (u8, &Arc<Bucket>)
     }
 }
 
-/// Goes down while two keys go on with the same two bits: how many of their bits are left there, and the node.
+/// Goes down as long as the next two bits of two keys are the same. Returns how many bits are left at the node, and the
+/// node.
 pub(crate) fn agreed(node: &Node, from: u64, to: u64, left: u8) -> (u8, &Node)
     requires fits { Fits left (seen node.now) }
     ensures agrees { Agrees from to left result.0 (seen node.now) (seen result.1.now) }

@@ -1,4 +1,4 @@
-//! Rows that are put, taken and moved in a trie that is changed in place.
+//! Adding, removing and moving rows in a trie that is changed in place.
 ghost use Rattle.std.specs.Prelude.{◌≡◌, true, false, IfOk, OnOk, OnErr};
 ghost use Rattle.std.specs.Arc.{arc_value};
 ghost use Rattle.bucket_versions.specs.Rows.{has_row, after_gone};
@@ -13,7 +13,7 @@ use bucket_versions::{Bucket, Commit, RowChange, Undone, own};
 use std::mem::replace;
 use std::sync::Arc;
 
-/// Adds a row to the leaf that the last `left` bits of its key lead to, once the step has succeeded.
+/// Adds a row to the leaf to which the last `left` bits of its key lead, once the step has succeeded.
 pub(crate) fn put_row<C: Commit>(node: &mut Node, to: &mut Coming, left: u8, commit: &mut C)
     requires can { C.can commit.old }
     requires fits { Fits left (seen node.old) }
@@ -37,7 +37,7 @@ pub(crate) fn put_row<C: Commit>(node: &mut Node, to: &mut Coming, left: u8, com
     }
 }
 
-/// Takes a row out of the leaf that the last `left` bits of its key lead to, once the step has succeeded.
+/// Removes a row from the leaf to which the last `left` bits of its key lead, once the step has succeeded.
 pub(crate) fn take_row<C: Commit>(node: &mut Node, from: &mut Going, left: u8, commit: &mut C)
     requires can { C.can commit.old }
     requires fits { Fits left (seen node.old) }
@@ -60,7 +60,7 @@ pub(crate) fn take_row<C: Commit>(node: &mut Node, from: &mut Going, left: u8, c
     }
 }
 
-/// Takes a row out and adds another one, once the step has succeeded.
+/// Removes a row and adds another one, once the step has succeeded.
 pub(crate) fn shift_row<C: Commit>(
     node: &mut Node,
     from: &RowChange,
@@ -94,8 +94,8 @@ pub(crate) fn shift_row<C: Commit>(
     }
 }
 
-// Takes a row out of one quarter and adds one to another. The first stands aside meanwhile, and a share of a third one in its
-// place, so that both can be written.
+// Removes a row from one quarter and adds one to another. Meanwhile the first quarter is moved out, so that the
+// function can write to both. A share of a third quarter takes its place.
 #[inline(never)]
 fn pass_across<C: Commit>(
     quad: &mut Quad,
@@ -132,7 +132,7 @@ fn pass_across<C: Commit>(
     replace_quarter(quad, high, low, aside);
 }
 
-// Puts a node in the place of a quarter, and hands that out.
+// Replaces a quarter by a node, and returns the old one.
 fn replace_quarter(quad: &mut Quad, high: bool, low: bool, node: Node) -> Node
     ensures old { seen result ≡ quarter_of quad.old high low }
     ensures new { quad.new ≡ with_node quad.old high low node }
@@ -140,7 +140,7 @@ fn replace_quarter(quad: &mut Quad, high: bool, low: bool, node: Node) -> Node
     replace(quarter_mut(quad, high, low), node)
 }
 
-// Takes a row out of one node and adds one to another.
+// Removes a row from one node and adds one to another node.
 fn pass_row<C: Commit>(
     node: &mut Node,
     from: &RowChange,
@@ -174,7 +174,7 @@ fn pass_row<C: Commit>(
     }
 }
 
-// Takes a row out of a leaf and adds one to a node.
+// Removes a row from a leaf and adds one to a node.
 fn pass_on<C: Commit>(
     leaf: &mut Arc<Bucket>,
     from: &RowChange,

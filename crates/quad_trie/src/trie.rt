@@ -1,4 +1,4 @@
-//! The trie: nodes, with leaves that tile the key space.
+//! The trie. Its leaves tile the key space.
 ghost use Rattle.std.specs.Prelude.{◌≡◌, ◌≤◌, ◌++◌, ◌∷◌, [], List, Bool};
 ghost use Rattle.index_layer.specs.Leaves.{AreLeaves, has_name};
 ghost use Rattle.index_layer.specs.LeavesProp.{AreLeaves-prop};
@@ -16,7 +16,7 @@ use std::alloc::Global;
 use std::sync::Arc;
 use zorder::{Memory, Name, child, first_bits};
 
-/// Leaves whose names tile the key space, under nodes that tries share.
+/// Leaves whose names tile the key space, below nodes that tries share.
 #[derive(Drop)]
 pub struct QuadTrie {
     alloc: Global,
@@ -26,7 +26,7 @@ pub struct QuadTrie {
 }
 
 impl QuadTrie {
-    // Whether a leaf has this name.
+    // Returns whether a leaf has this name.
     fn has_leaf(&self, name: &Name) -> bool
         ensures { result ≡ has_name name.now (leaves_under [] (seen self.now.root)) }
     {
@@ -83,7 +83,8 @@ impl Index for QuadTrie {
             Node::Inner(quad) => quad,
         };
         if name.len() % 2 == 0 {
-            // Between two levels the last bit of the name tells which half is meant: the node stands in for both.
+            // Between two levels, this node is the place of both halves. The last bit of the name says which half is
+            // meant.
             Below::Halves {
                 zero: place,
                 one: place,
@@ -208,7 +209,7 @@ impl Index for QuadTrie {
     }
 }
 
-// Whether the last bit of a name is 1.
+// Returns whether the last bit of a name is 1.
 fn ends_with_one(name: &Name) -> bool
     requires { (front : List Bool) × (bit : Bool) × (name.now ≡ front ++ bit ∷ []) }
     ensures { (front : List Bool) (bit : Bool) → name.now ≡ front ++ bit ∷ [] → result ≡ bit }

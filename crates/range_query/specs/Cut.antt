@@ -9,7 +9,7 @@ use Rattle.plain_list.specs.Queries.{members_in}
 use Rattle.table_share.specs.Objects.{objects_of}
 use Rattle.table_share.specs.Subtree.{subtree, leaves_of}
 
--- the region is the name's
+-- the region is that of the name
 pub record IsAreaOf (name : List Bool) (area : Region) : Type 0 where
   pub is : area ≡ region_of name
   pub short : length name ≤ 64
@@ -30,11 +30,11 @@ is_cut region name = meet (region_of name) region && not (lies_in (region_of nam
 abbrev pub leaves_cut : Region → List Leaf → List Leaf
 leaves_cut region leaves = leaves_of (is_cut region) leaves
 
--- how many rows stand for an object in the box
+-- how many rows represent an object in the box
 abbrev pub number_in : Region → List Row → ℕ
 number_in region rows = length (members_in region (objects_of rows))
 
--- the number of rows that stand for an object in the box, where there are not too many to be counted
+-- n is the number of rows that represent an object in the box, if this number fits in 64 bits
 abbrev pub IsNumberIn : Region → List Row → ℕ → Type 0
 IsNumberIn region rows n = number_in region rows < 2 ^ 64 → n ≡ number_in region rows
 
@@ -42,7 +42,7 @@ IsNumberIn region rows n = number_in region rows < 2 ^ 64 → n ≡ number_in re
 abbrev pub below_met : Region → List Bool → List Leaf → List Leaf
 below_met region name leaves = leaves_met region (subtree name leaves)
 
--- the objects in the box that rows of these leaves stand for, one leaf after the other
+-- the objects in the box that the rows of these leaves represent, one leaf after the other
 abbrev pub objects_held : Region → List Leaf → List Placed
 objects_held region leaves = members_in region (objects_of (all_rows leaves))
 
@@ -50,6 +50,6 @@ objects_held region leaves = members_in region (objects_of (all_rows leaves))
 abbrev pub held_below : Region → List Bool → List Leaf → List Placed
 held_below region name leaves = objects_held region (below_met region name leaves)
 
--- the number of those, where there are not too many to be counted
+-- n is the number of objects in the box below a name, if this number fits in 64 bits
 abbrev pub IsNumberBelow : Region → List Bool → List Leaf → ℕ → Type 0
 IsNumberBelow region name leaves n = IsNumberIn region (all_rows (below_met region name leaves)) n

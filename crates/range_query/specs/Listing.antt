@@ -1,4 +1,4 @@
--- What is found in a box so far.
+-- What was found in a box so far.
 use Rattle.std.specs.Prelude.{◌≡◌, ◌≤◌, ◌<◌, ◌+◌, ◌^◌, ◌++◌, ⊤, List, length, Result, OnOk}
 use Rattle.zorder.specs.declared.points.Placed.{Placed}
 use Rattle.bucket_versions.specs.declared.row.Row.{Row}
@@ -7,19 +7,19 @@ use Rattle.plain_list.specs.declared.ops.Answer.{Answer}
 use Rattle.plain_list.specs.declared.ops.Answer.TheVariants.{Found}
 use Rattle.range_query.specs.declared.found.Listing.{Listing}
 
--- so many objects, and these, where they are not too many to be listed
+-- the count is the number of objects, and the list has them if they are at most 2,048
 abbrev pub IsListing : List Placed → Listing → Type 0
 IsListing ms listing = (listing.count ≡ length ms) × (length ms ≤ 2048 → listing.list.items ≡ ms)
 
--- objects come to those that are listed, in their order, where there are not too many to be counted
+-- the objects `more` are appended, if their total fits in 64 bits
 abbrev pub Adds : {T E : Type 0} → Result T E → List Placed → Listing → Listing → Type 0
 Adds result more old new = (ms : List Placed) → length ms + length more < 2 ^ 64 → IsListing ms old → OnOk result (IsListing (ms ++ more) new)
 
--- the same of the objects that rows stand for
+-- the same for the objects that rows represent
 abbrev pub AddsAll : {T E : Type 0} → Result T E → List Row → Listing → Listing → Type 0
 AddsAll result rows old new = (ms : List Placed) → length ms + length rows < 2 ^ 64 → IsListing ms old → OnOk result (IsListing (ms ++ objects_of rows) new)
 
--- it holds where objects are listed
+-- P holds if the answer lists objects
 abbrev pub OnFound : Answer → Type 0 → Type 0
 OnFound (Found ms) P = P
 OnFound _ P = ⊤

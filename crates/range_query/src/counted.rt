@@ -1,4 +1,4 @@
-//! How many rows of a leaf are in a box.
+//! The number of a leaf's rows that are in a box.
 ghost use Rattle.std.specs.Prelude.{◌≡◌, ◌≤◌, ◌<◌, ◌+◌, ◌^◌, ◌&&◌, nat_le};
 ghost use Rattle.zorder.specs.Key.{key_of};
 ghost use Rattle.zorder.specs.Region.{IsBox};
@@ -12,13 +12,13 @@ use std::sync::ledger::Ledger;
 use step_count::Steps;
 use zorder::{Name, Point, Region, key};
 
-// The bits of a key that are those of x, and those of y: of each the numbers that they leave of keys have the order of the coordinate.
+// The bits of x and the bits of y in a key. Keys masked by one of them have the order of that coordinate.
 const OF_X: u64 = 0xAAAA_AAAA_AAAA_AAAA;
 
 const OF_Y: u64 = 0x5555_5555_5555_5555;
 
-/// How many rows of a leaf, whose region is `area`, are in the box. The box cuts most leaves on one axis alone, and then the other
-/// one isn't tested. No point is made.
+/// Returns how many rows of a leaf are in the box. `area` is the region of the leaf. The box cuts most leaves on one
+/// axis only, and then the function doesn't test the other axis. It computes no point.
 pub(crate) fn count_rows<L: Ledger>(
     bucket: &Bucket,
     name: &Name,
@@ -56,7 +56,7 @@ fn key_of_y(y: u32) -> u64
     key(Point { x: 0, y })
 }
 
-// How many rows have keys of which a mask leaves one from the first number to the last.
+// Returns how many rows have a masked key from `first` to `last`.
 fn count_masked(rows: BucketRows<'_>, mask: u64, first: u64, last: u64) -> u64
     requires { first ≤ last }
     ensures { NumberMasked mask first last rows.entry result }
@@ -71,7 +71,7 @@ fn count_masked(rows: BucketRows<'_>, mask: u64, first: u64, last: u64) -> u64
     count
 }
 
-// One comparison for both ends: what is less than the first number wraps to one that is greater than the span.
+// Tests both ends by one comparison. A number below `first` wraps around to one above `span`.
 fn is_within(number: u64, first: u64, span: u64) -> bool
     requires { first + span < 2 ^ 64 }
     ensures { result ≡ (nat_le first number && nat_le number (first + span)) }

@@ -1,4 +1,4 @@
-//! How many objects are in a box.
+//! The number of objects in a box.
 ghost use Rattle.std.specs.Prelude.{◌≡◌, ◌+◌, ◌<◌, true, length};
 ghost use Rattle.zorder.specs.Region.{IsBox};
 ghost use Rattle.plain_list.specs.Queries.{members_in};
@@ -14,8 +14,8 @@ use std::sync::ledger::Ledger;
 use step_count::Steps;
 use zorder::{Name, Region, child, key};
 
-/// How many objects are in the box. A leaf's bucket is opened, which is a step, only where the box has some points of
-/// its region and not all; what lies inside the box is counted by whole subtrees. It takes no memory.
+/// Returns the number of objects in the box. It opens the bucket of a leaf, which is one step, only if the box has some
+/// points of the leaf's region but not all. It counts subtrees inside the box whole. It takes no memory.
 pub fn count_in<I: Index, L: Ledger>(index: &I, region: &Region, steps: &mut Steps<L>) -> u64
     requires { IsBox region.now }
     ensures number { OfPlaces (I.leaves index.now) (λ places. result ≡ length (members_in region.now places)) }
@@ -26,7 +26,7 @@ pub fn count_in<I: Index, L: Ledger>(index: &I, region: &Region, steps: &mut Ste
     number_below(index, &name, place, &area, region, steps)
 }
 
-// How many there are below a name, whose region is `area`.
+// Returns the number of objects in the box below a name, whose region is `area`.
 fn number_below<I: Index, L: Ledger>(
     index: &I,
     name: &Name,

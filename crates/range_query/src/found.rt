@@ -1,4 +1,4 @@
-//! The objects in a box, or how many they are, in one walk.
+//! The objects in a box or, if they are too many, their number, in one walk.
 ghost use Rattle.std.specs.Prelude.{◌≡◌, ◌≤◌, ◌<◌, ◌+◌, ◌∷◌, [], length, true, IfOk, OnOk};
 ghost use Rattle.zorder.specs.declared.points.Placed.{Placed};
 ghost use Rattle.zorder.specs.Region.{IsBox};
@@ -23,13 +23,13 @@ use step_count::Steps;
 use table_share::placed;
 use zorder::{Memory, Name, Placed, Region, child, key};
 
-// How many objects the answer to a box may list.
+// The number of objects that the answer to a box may list.
 const MOST_LISTED: u64 = 2_048;
 
-// Room for so many is taken before the first.
+// The number of objects for which memory is taken at the start.
 const FEW_FOUND: usize = 32;
 
-// What was found so far. Once there are too many to be listed, only their number goes on.
+// What was found so far. After the list has its greatest length, only the count rises.
 #[derive(Drop)]
 struct Listing {
     list: Vec<Placed>,
@@ -58,10 +58,10 @@ impl Listing {
     }
 }
 
-/// The answer to a box: the objects in the order of their ids, or how many they are where that is too long a list. A leaf's
-/// bucket is opened, which is a step, where the box has some points of its region, and once: objects are counted and listed
-/// in one walk. A subtree inside the box of which too many would be listed is counted whole, without a step. Memory is taken
-/// for no more objects than may be listed.
+/// Returns the answer to a box: the objects in the order of their ids or, if they are more than 2,048, their number. It
+/// opens the bucket of a leaf, which is one step, only if the box has some points of the leaf's region. It opens each
+/// at most once, as one walk both lists and counts. A subtree inside the box that would make the list too long is
+/// counted whole, without a step. Memory is taken for at most as many objects as may be listed.
 pub fn found_in<I: Index, L: Ledger>(
     alloc: Global,
     index: &I,
@@ -81,12 +81,12 @@ pub fn found_in<I: Index, L: Ledger>(
         return Ok(Answer::Many(found.count));
     }
     found.list.sort_unstable_by_key(|m| m.id);
-    // Answers are kept for long: what room is left goes back.
+    // Answers are kept for long, so the unused memory is given back.
     found.list.shrink_to_fit();
     Ok(Answer::Found(PlacedList::from_vec(found.list)))
 }
 
-// The objects below a name, whose region is `area`, in the order of their keys.
+// Adds the objects in the box below a name, whose region is `area`, in the order of their keys.
 fn list_below<I: Index, L: Ledger>(
     found: &mut Listing,
     index: &I,
@@ -120,7 +120,7 @@ fn list_below<I: Index, L: Ledger>(
     }
 }
 
-// All objects below a name. Its leaves are opened only where these are listed.
+// Adds all objects below a name. It opens the leaves only if all these objects can be listed.
 fn list_whole<I: Index, L: Ledger>(
     found: &mut Listing,
     index: &I,
@@ -142,7 +142,7 @@ fn list_whole<I: Index, L: Ledger>(
     Ok(())
 }
 
-// The objects of a leaf in the box. Once no more can be listed they are only counted.
+// Adds the objects of a leaf that are in the box. If the list is full, it only counts them.
 fn list_leaf<L: Ledger>(
     found: &mut Listing,
     bucket: &Bucket,

@@ -1,11 +1,14 @@
-//! What is in a box, over any index.
+//! Box queries over any index.
 //!
-//! Contracts see an index as its leaves. For the places that they stand for, `range` gives the objects that
-//! are in the box, in the order of their ids, and `count_in` gives their number; `found_in` gives either, as the answer to
-//! a box is to be. All walk down the index, and pass over a subtree whose region misses the box; `found_in` and `count_in`
-//! begin where both corners are below (`met-below`). `range` and `found_in` open only the leaves whose region the box meets
-//! (`leaves_met`), each once, and `found_in` none of a subtree inside the box of which too many would be listed. `count_in` opens only
-//! those that it cuts (`leaves_cut`): a subtree inside the box is counted whole.
+//! Contracts see an index as its leaves, and speak of the objects that the leaves represent. `range` returns the
+//! objects in the box, in the order of their ids. `count_in` returns their number. `found_in` returns the answer to a
+//! box, which is either.
+//!
+//! All three walk down the index and skip each subtree whose region misses the box. `found_in` and `count_in` begin at
+//! a place that has both corners of the box below it. No leaf that the box meets is elsewhere (`met-below`). `range`
+//! and `found_in` open only leaves that the box meets (`leaves_met`), each at most once. `found_in` opens no leaf of a
+//! subtree inside the box whose objects are too many to list. `count_in` opens only leaves that the box cuts
+//! (`leaves_cut`), since it counts subtrees inside the box whole.
 //!
 //! Not here: what the answer to a box is (`plain_list`).
 #![tactic(auto)]

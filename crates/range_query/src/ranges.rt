@@ -19,8 +19,8 @@ use step_count::Steps;
 use table_share::placed;
 use zorder::{Memory, Name, Placed, Region, child};
 
-/// The objects in the box, in the order of their ids. A leaf's bucket is opened, which is a step, where the box has some
-/// points of its region. Memory is taken for what is found alone.
+/// Returns the objects in the box, in the order of their ids. It opens the bucket of a leaf, which is one step, only if
+/// the box has some points of the leaf's region. It takes memory only for the objects that it finds.
 pub fn range<I: Index, L: Ledger>(
     alloc: Global,
     index: &I,
@@ -45,7 +45,7 @@ pub fn range<I: Index, L: Ledger>(
     Ok(PlacedList::from_vec(found))
 }
 
-// The objects below a name, in the order of their keys.
+// Appends the objects in the box below a name, in the order of their keys.
 fn push_below<I: Index, L: Ledger>(
     found: &mut Vec<Placed>,
     index: &I,
@@ -72,7 +72,7 @@ fn push_below<I: Index, L: Ledger>(
     }
 }
 
-// The objects of a leaf that the box meets. Those of a leaf inside the box are all there.
+// Appends the objects of a leaf that are in the box. If the leaf is inside the box, it tests none of them.
 fn push_leaf<L: Ledger>(
     found: &mut Vec<Placed>,
     name: &Name,
@@ -91,7 +91,7 @@ fn push_leaf<L: Ledger>(
     }
 }
 
-/// All objects below a name, in the order of their keys.
+/// Appends all objects below a name, in the order of their keys.
 pub(crate) fn push_whole<I: Index, L: Ledger>(
     found: &mut Vec<Placed>,
     index: &I,

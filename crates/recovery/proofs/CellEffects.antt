@@ -6,6 +6,7 @@ use Rattle.std.specs.Option.{option_map, option_map_or}
 use Rattle.std.proofs.lemmas.Bool.{cases_Bool, eq-eqb, lt-ltb, true≢false}
 use Rattle.std.proofs.lemmas.Bool.Decides.{nat_tests}
 use Rattle.std.proofs.lemmas.Grind.{common_steps}
+use Rattle.zorder.specs.Width.{IsWidth}
 use Rattle.zorder.specs.SameName.{same_name}
 use Rattle.zorder.specs.Tile.{children}
 use Rattle.cell_format.specs.declared.cell.Cell.{Cell}
@@ -124,11 +125,11 @@ changed_longer : (b : Bool) (world new : World) → length new ≤ length world 
 changed_longer true world new le = le
 changed_longer false world new le = omega arith
 
-children_few : (w : ℕ) (name : List Bool) → (w ≡ 1) ⊎ (w ≡ 2) → length (children w name) ≤ 4
+children_few : (w : ℕ) (name : List Bool) → IsWidth w → length (children w name) ≤ 4
 children_few w name (inl one) = subst (λ n. length (children n name) ≤ 4) (sym one) (omega arith)
 children_few w name (inr two) = subst (λ n. length (children n name) ≤ 4) (sym two) (omega arith)
 
-split_longer : (w : ℕ) (name : List Bool) → (w ≡ 1) ⊎ (w ≡ 2) → (leaves : List (List Bool)) → length (split_leaf w name leaves) ≤ length leaves + 3
+split_longer : (w : ℕ) (name : List Bool) → IsWidth w → (leaves : List (List Bool)) → length (split_leaf w name leaves) ≤ length leaves + 3
 split_longer w name known [] = omega arith
 split_longer w name known (leaf ∷ leaves) = by_test (same_name leaf name) (split_longer w name known leaves)
   where
@@ -136,12 +137,12 @@ split_longer w name known (leaf ∷ leaves) = by_test (same_name leaf name) (spl
     by_test true rest = omega (arith, length-append (children w name) leaves, children_few w name known)
     by_test false rest = omega (arith, rest)
 
-installed_longer : (w : ℕ) (name : Option (List Bool)) → (w ≡ 1) ⊎ (w ≡ 2) → (leaves : List (List Bool)) → length (installed w name leaves) ≤ length leaves + 3
+installed_longer : (w : ℕ) (name : Option (List Bool)) → IsWidth w → (leaves : List (List Bool)) → length (installed w name leaves) ≤ length leaves + 3
 installed_longer w None known leaves = omega arith
 installed_longer w (Some name) known leaves = split_longer w name known leaves
 
 -- how much longer the lists of a state are after a cell
-pub grows : (w : ℕ) (s : State) (c : Cell) → (w ≡ 1) ⊎ (w ≡ 2) → HasRoomAfter s (step w s (entry_of c))
+pub grows : (w : ℕ) (s : State) (c : Cell) → IsWidth w → HasRoomAfter s (step w s (entry_of c))
 grows w s (cell.Put id at moment) known = record {
   members = changed_longer (is_change (answer_of s.world (op.Put id at moment))) s.world (changed s.world (op.Put id at moment)) (omega (arith, length-with_member (record { id = id; at = at; moment = moment }) s.world));
   leaves = omega arith;

@@ -14,7 +14,7 @@ use Rattle.cell_format.specs.declared.cell.Cause.TheVariants as cause
 use Rattle.cell_format.specs.declared.cell.CellFault.{CellFault}
 use Rattle.cell_format.specs.declared.cell.CellFault.TheVariants as cell_fault
 use Rattle.cell_format.specs.Decoding.{decoded}
-use Rattle.cell_format.specs.Spelling.{IsCell, spelling, header_text}
+use Rattle.cell_format.specs.Spelling.{IsCell, spelling, header_text, IsVersion}
 use Rattle.cell_format.proofs.Decoded.{same_cell, fits-newest, length-spelling, decoded-spelling}
 use Rattle.cell_format.proofs.Reading.{decoded-HasNoKind, decoded-HasReserved, decoded-HasBadName, decoded-spelled}
 use Rattle.plain_list.specs.State.{State, empty_state, step}
@@ -146,14 +146,14 @@ ReadsWrong v w s tail cause.Reserved = (33 ≤ length tail) × (decoded v (take 
 ReadsWrong v w s tail cause.BadName = (33 ≤ length tail) × (decoded v (take 32 tail) ≡ Err cell_fault.BadName)
 ReadsWrong v w s tail cause.Impossible = (33 ≤ length tail) × (next : Cell) × (decoded v (take 32 tail) ≡ Ok next) × (is_possible_cell w s next ≡ false)
 
-reads_wrong : (v w : ℕ) → (v ≡ 1) ⊎ (v ≡ 2) → (s : State) (tail : List ℕ) (why : Cause) → IsWrong v w s tail why → ReadsWrong v w s tail why
+reads_wrong : (v w : ℕ) → IsVersion v → (s : State) (tail : List ℕ) (why : Cause) → IsWrong v w s tail why → ReadsWrong v w s tail why
 reads_wrong v w known s tail cause.ShortCell wrong = wrong
 reads_wrong v w known s tail cause.Kind wrong = (wrong.0, decoded-HasNoKind v (take 32 tail) wrong.1)
 reads_wrong v w known s tail cause.Reserved wrong = (wrong.0, decoded-HasReserved v (take 32 tail) wrong.1)
 reads_wrong v w known s tail cause.BadName wrong = (wrong.0, decoded-HasBadName v (take 32 tail) (length-take-le 32 tail (omega (arith, wrong.0))) wrong.1)
 reads_wrong v w known s tail cause.Impossible wrong = (wrong.0, wrong.1, decoded-spelled v known (take 32 tail) wrong.1 wrong.2, wrong.3)
 
-not_wrong : (v w : ℕ) → (v ≡ 1) ⊎ (v ≡ 2) → (s : State) (next : Cell) (rest tail : List ℕ) (why : Cause) → IsCell v next → tail ≡ spelling next ++ rest → 1 ≤ length rest → is_possible_cell w s next ≡ true
+not_wrong : (v w : ℕ) → IsVersion v → (s : State) (next : Cell) (rest tail : List ℕ) (why : Cause) → IsCell v next → tail ≡ spelling next ++ rest → 1 ≤ length rest → is_possible_cell w s next ≡ true
     → IsWrong v w s tail why → ⊥
 not_wrong v w known s next rest tail why fits is some possible wrong =
     let first = spelled_first next rest tail is in
@@ -185,7 +185,7 @@ recovers_end w most cells bytes recovers few = record {
 }
 
 -- a version that is read
-pub known_version : (oldest v : ℕ) → 1 ≤ oldest → IsWanted oldest v → (v ≡ 1) ⊎ (v ≡ 2)
+pub known_version : (oldest v : ℕ) → 1 ≤ oldest → IsWanted oldest v → IsVersion v
 known_version oldest v least wanted = elim (cases_eq v 1) [
   | inl first ↦ inl first
   | inr other ↦ inr (omega (arith, least, wanted.least, wanted.most, other))
@@ -232,7 +232,7 @@ one_reading v w s tail cause.Impossible cause.Reserved a b = absurd (err_ok cell
 one_reading v w s tail cause.Impossible cause.BadName a b = absurd (err_ok cell_fault.BadName a.1 (sym b.1 ∙ a.2))
 one_reading v w s tail cause.Impossible cause.Impossible a b = refl
 
-one_cause : (v w : ℕ) → (v ≡ 1) ⊎ (v ≡ 2) → (s : State) (tail : List ℕ) (why also : Cause) → IsWrong v w s tail why → IsWrong v w s tail also → why ≡ also
+one_cause : (v w : ℕ) → IsVersion v → (s : State) (tail : List ℕ) (why also : Cause) → IsWrong v w s tail why → IsWrong v w s tail also → why ≡ also
 one_cause v w known s tail why also a b = one_reading v w s tail why also (reads_wrong v w known s tail why a) (reads_wrong v w known s tail also b)
 
 -- for whoever wants versions from this one on

@@ -28,7 +28,7 @@ use Rattle.recovery.specs.Walked.{object_of, place_in, IsNextWalked}
 use Rattle.recovery.specs.Pieces.{FailsAt}
 use Rattle.recovery.specs.Reading.{ReadingView, HasRead, FailsIn, IsBehind, Stops, StartsFor, SameLog, HasAllThatIsLeft, IsFilled, IsEmptied, PassesOn, WalksOn, Advances, ReadsPiece}
 use Rattle.recovery.specs.Headers.{HasHeader}
-use Rattle.recovery.specs.Widths.{IsWidth}
+use Rattle.zorder.specs.Width.{IsWidth}
 use Rattle.recovery.specs.Wanted.{IsWidthFor, MayTellCells}
 use Rattle.recovery.proofs.HeadLemmas.{begins_first}
 use Rattle.recovery.proofs.PieceLemmas.{all_append}

@@ -1,6 +1,7 @@
 -- What calls on a reading say of the log: of the next cell, and of all.
 use Rattle.std.proofs.Common.{◌≡◌, ◌⊎◌, ℕ, ◌≤◌, List, [], ◌∷◌, ◌++◌, length, Option, Some, None, sym, ◌∙◌, ap, subst, arith, length-append, lit≤}
 use Rattle.std.specs.Prelude.{Result, Ok, Err}
+use Rattle.cell_format.specs.Spelling.{IsVersion}
 use Rattle.cell_format.specs.declared.cell.Cell.{Cell}
 use Rattle.disk_trait.specs.Drive.{Drive, SameFile, Stays}
 use Rattle.split_log.specs.LogText.{HoldsCells}
@@ -78,7 +79,7 @@ found_read oldest w most len a b first r seen starts kept all shown whole =
         wanted = subst (IsWanted oldest) (sym version) starts.wanted;
         recovers = λ xs told. record {
           version = first.replay.version;
-          known = subst (λ v. (v ≡ 1) ⊎ (v ≡ 2)) all.same.version shown.known;
+          known = subst (λ v. IsVersion v) all.same.version shown.known;
           holds = holds xs told;
           legal = legal;
         };

@@ -11,7 +11,8 @@ use Rattle.recovery.specs.Faults.{IsFault, IsInBytes}
 use Rattle.recovery.specs.Found.{IsWanted, IsFree}
 use Rattle.recovery.specs.Reading.{ReadingView, StartsFor}
 use Rattle.recovery.specs.Walks.{IsOfHead}
-use Rattle.recovery.specs.Widths.{IsWidth, HasWidth, IsWidthOf, IsLogFault}
+use Rattle.zorder.specs.Width.{IsWidth}
+use Rattle.recovery.specs.Widths.{HasWidth, IsWidthOf, IsLogFault}
 use Rattle.recovery.specs.Wanted.{IsWidthFor, IsFaultFor, MayTellFor, MayTellCells}
 use Rattle.recovery.proofs.Exclusive.{one_fault, recovers_no_fault, told_free}
 use Rattle.recovery.proofs.WalkLemmas.{first_header}

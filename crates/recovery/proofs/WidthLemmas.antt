@@ -11,7 +11,8 @@ use Rattle.log_state.specs.Recovers.{Recovers}
 use Rattle.recovery.specs.Faults.{IsDamaged, IsTooLong, IsOldLog, IsFault, IsInBytes}
 use Rattle.recovery.specs.Found.{IsWanted}
 use Rattle.recovery.specs.Headers.{HasHeader, FailsHead}
-use Rattle.recovery.specs.Widths.{IsWidth, HasWidth, IsStrangeHead, IsStrangeLog, IsHeadFault, IsLogFault}
+use Rattle.zorder.specs.Width.{IsWidth}
+use Rattle.recovery.specs.Widths.{HasWidth, IsStrangeHead, IsStrangeLog, IsHeadFault, IsLogFault}
 use Rattle.recovery.specs.Wanted.{IsOtherFor, IsFaultFor, MayTellFor, MayTellHead, MayTellHeadFor}
 use Rattle.recovery.specs.Walks.{IsOfHead}
 use Rattle.recovery.proofs.HeadLemmas.{header_bytes, header_is_log, index_width}

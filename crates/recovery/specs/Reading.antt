@@ -1,5 +1,6 @@
 -- How far the reading of a log has come.
 use Rattle.std.specs.Prelude.{◌≡◌, ◌≢◌, ◌⊎◌, ℕ, ◌+◌, ◌*◌, ◌-◌, ◌<◌, ◌≤◌, min, List, [], ◌∷◌, ◌++◌, length, take, drop, slice_index, Option, Some, None, Result, Ok, Err, MatchResult, IsErrOf, ⊤}
+use Rattle.cell_format.specs.Spelling.{IsVersion}
 use Rattle.causes.specs.Causes.{Rose}
 use Rattle.cell_format.specs.declared.cell.Cell.{Cell}
 use Rattle.disk_trait.specs.Drive.{Drive, SameFile, Stays}
@@ -15,7 +16,8 @@ use Rattle.recovery.specs.Pieces.{PassesCell, FailsAt}
 use Rattle.recovery.specs.Replay.{ReplayView}
 use Rattle.recovery.specs.Room.{HasRoomAfter}
 use Rattle.recovery.specs.Walked.{IsNextWalked}
-use Rattle.recovery.specs.Widths.{IsWidth, IsWidthOf}
+use Rattle.zorder.specs.Width.{IsWidth}
+use Rattle.recovery.specs.Widths.{IsWidthOf}
 use Rattle.recovery.specs.Wanted.{IsWidthFor, MayTellCells}
 
 -- the state after the cells so far, their number, how many there may be, the length of the file, and what is left of the piece that was read last,
@@ -166,7 +168,7 @@ pub record IsOnWay (before now : Drive) (first r : ReadingView) : Type 0 where
 pub record IsSeenOf (r : ReadingView) (seen : Seen) : Type 0 where
   pub shows : Shows r.replay.state r.number seen
   pub version : seen.version ≡ r.replay.version
-  pub known : (r.replay.version ≡ 1) ⊎ (r.replay.version ≡ 2)
+  pub known : IsVersion r.replay.version
   pub few : r.number ≤ r.most
   pub room : 17 + 32 * r.number ≤ r.len
 

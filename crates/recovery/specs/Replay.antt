@@ -1,6 +1,8 @@
 -- The state of the cells so far, as it is kept.
 use Rattle.std.specs.Prelude.{◌≡◌, ◌⊎◌, ℕ, ◌+◌, ◌≤◌, true, false, List, length, Option, Some, Result, IfOk, OnErr, Err}
 use Rattle.std.specs.List.{AllByRecursion}
+use Rattle.cell_format.specs.Spelling.{IsVersion}
+use Rattle.zorder.specs.Width.{IsWidth}
 use Rattle.cell_format.specs.declared.cell.Cell.{Cell}
 use Rattle.zorder.specs.declared.points.Point.{Point}
 use Rattle.plain_list.specs.State.{State, OpenSplit, step}
@@ -25,8 +27,8 @@ pub record IsOpen (width begun : ℕ) (leaves : List MarkedLeaf) (s : OpenSplit)
   pub number : s.number ≤ begun
 
 pub record IsReplay (version width begun : ℕ) (leaves : List MarkedLeaf) (splits : List OpenSplit) : Type 0 where
-  pub version_is : (version ≡ 1) ⊎ (version ≡ 2)
-  pub width_is : (width ≡ 1) ⊎ (width ≡ 2)
+  pub version_is : IsVersion version
+  pub width_is : IsWidth width
   pub rising : IsRisingSplits splits
   pub each : AllByRecursion (IsOpen width begun leaves) splits
 

@@ -4,7 +4,8 @@ use Rattle.recovery.specs.declared.seen.OpenFault.{OpenFault}
 use Rattle.recovery.specs.declared.seen.OpenFault.TheVariants.{NotLog, OldLog, Damaged, Disk, Memory, TooLong}
 use Rattle.recovery.specs.Faults.{IsFault}
 use Rattle.recovery.specs.Found.{IsWanted}
-use Rattle.recovery.specs.Widths.{IsWidth, IsLogFault}
+use Rattle.zorder.specs.Width.{IsWidth}
+use Rattle.recovery.specs.Widths.{IsLogFault}
 
 -- a log of this width is wanted
 abbrev pub IsWidthFor : Option ℕ → ℕ → Type 0

@@ -1,14 +1,11 @@
 -- The width of a log, as its head names it, and what is at fault in a log of either width.
 use Rattle.std.specs.Prelude.{◌≡◌, ◌≢◌, ◌⊎◌, ℕ, List, slice_index, Some, ⊤}
+use Rattle.zorder.specs.Width.{IsWidth}
 use Rattle.disk_trait.specs.Drive.{Drive}
 use Rattle.recovery.specs.declared.seen.OpenFault.{OpenFault}
 use Rattle.recovery.specs.declared.seen.OpenFault.TheVariants.{NotLog, OldLog, Damaged, Disk, Memory, TooLong}
 use Rattle.recovery.specs.Faults.{IsNotLog, IsDamaged, IsTooLong}
 use Rattle.recovery.specs.Found.{IsWanted}
-
--- a width that logs have: their splits make two children, or four
-abbrev pub IsWidth : ℕ → Type 0
-IsWidth w = (w ≡ 1) ⊎ (w ≡ 2)
 
 -- a log of version 1 or 2, and of this width
 pub record HasWidth (w : ℕ) (bytes : List ℕ) : Type 0 where

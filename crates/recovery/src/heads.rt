@@ -9,7 +9,8 @@ ghost use Rattle.recovery.specs.Faults.{HasOtherHead, IsInBytes};
 ghost use Rattle.recovery.specs.Found.{IsWanted};
 ghost use Rattle.recovery.specs.Headers.{HasHeader, HasHead, FailsHead};
 ghost use Rattle.recovery.specs.Reading.{OnlyReads};
-ghost use Rattle.recovery.specs.Widths.{IsWidth, HasWidth, IsHeadFault};
+ghost use Rattle.zorder.specs.Width.{IsWidth};
+ghost use Rattle.recovery.specs.Widths.{HasWidth, IsHeadFault};
 ghost use Rattle.recovery.specs.Wanted.{IsWidthFor, IsNoWidthFor, IsOtherFor, IsFaultFor, MayTellHead, MayTellHeadFor};
 
 use crate::seen::{NEWEST, OpenFault};

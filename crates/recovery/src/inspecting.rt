@@ -7,7 +7,8 @@ ghost use Rattle.recovery.specs.declared.seen.OpenFault.{OpenFault};
 ghost use Rattle.recovery.specs.Faults.{IsFault, IsInBytes};
 ghost use Rattle.recovery.specs.Reading.{FailsOn, ReadsAll, OnlyReads, IsFoundFor};
 ghost use Rattle.recovery.specs.Found.{IsFound, IsFree};
-ghost use Rattle.recovery.specs.Widths.{IsWidth, IsWidthOf, IsLogFault, ShowsFault};
+ghost use Rattle.zorder.specs.Width.{IsWidth};
+ghost use Rattle.recovery.specs.Widths.{IsWidthOf, IsLogFault, ShowsFault};
 ghost use Rattle.recovery.specs.Wanted.{IsFaultFor, MayTell, MayTellFor, MayTellLog};
 
 use crate::heads::FIRST;
@@ -49,7 +50,7 @@ pub fn inspect<D: LogDisk>(
     width: u8,
     most: u64,
 ) -> Result<Seen, OpenFault>
-    requires width { (width ≡ 1) ⊎ (width ≡ 2) }
+    requires width { IsWidth width }
 
     ensures found { IfOk result (IsFound 1 width most (D.drive disk.old)) }
     ensures fault { IfErr result (λ e. (bytes : List ℕ) → (D.drive disk.old).bytes ≡ Some bytes → IsFault 1 width most bytes e) }

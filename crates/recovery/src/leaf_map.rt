@@ -1,5 +1,6 @@
 //! The leaves, each with the split last begun of it.
 ghost use Rattle.std.specs.Prelude.{◌≡◌, ◌⊎◌, ◌+◌, ◌≤◌, ◌<◌, ◌^◌, [], ◌∷◌, ◌++◌, List, length, true, false, Some, OnOk, OnErr, IfOk, vec_len, vec_capacity};
+ghost use Rattle.zorder.specs.Width.{IsWidth};
 ghost use Rattle.zorder.specs.Tile.{Tile};
 ghost use Rattle.plain_list.specs.State.{is_leaf, split_leaf};
 ghost use Rattle.recovery.specs.LeafMap.{names_of, split_at, with_begun, halved, new_leaf, KeepsMarks, HasHalved};
@@ -101,7 +102,7 @@ impl LeafMap {
     /// Puts the children of a leaf in its place, whose names have `width` bits more.
     pub(crate) fn split(&mut self, name: &Name, width: u8) -> Result<(), AllocError>
         requires leaf { is_leaf (names_of self.old) name.now ≡ true }
-        requires width { (width ≡ 1) ⊎ (width ≡ 2) }
+        requires width { IsWidth width }
         requires short { length name.now + width ≤ 64 }
 
         ensures names { OnOk result (names_of self.new ≡ split_leaf width name.now (names_of self.old)) }

@@ -1,5 +1,6 @@
 //! Makes a log of no cells.
 ghost use Rattle.std.specs.Prelude.{◌≡◌, ◌⊎◌, ◌++◌, ◌∷◌, [], OnOk, IfOk, IfErr, MatchResult};
+ghost use Rattle.zorder.specs.Width.{IsWidth};
 ghost use Rattle.cell_format.specs.Spelling.{newest, header_text};
 ghost use Rattle.recovery.specs.Making.{Makes, RefusesInit, KeepsSmall};
 
@@ -13,7 +14,7 @@ const MOST_BYTES: u64 = 17;
 /// Makes a log whose splits will make `2 ^ width` children. A crash within it leaves at most 17 bytes of any content, so that it may
 /// be called again.
 pub fn init<D: LogDisk>(mut disk: D, width: u8) -> Result<D, InitRefused<D>>
-    requires width { (width ≡ 1) ⊎ (width ≡ 2) }
+    requires width { IsWidth width }
 
     ensures made { IfOk result (λ new. Makes width (D.drive disk) (D.drive new)) }
     ensures refused { IfErr result (λ e. RefusesInit (D.drive disk) (D.drive e.disk) e.cause) }

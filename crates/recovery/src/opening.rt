@@ -12,7 +12,8 @@ ghost use Rattle.split_log.specs.LogView.{most_cells};
 ghost use Rattle.recovery.specs.Faults.{IsFault, IsInBytes};
 ghost use Rattle.recovery.specs.Found.{IsFound, IsFree};
 ghost use Rattle.recovery.specs.Opening.{KeepsCells, KeepsNewest, CallsToCut, LeavesUnopened, IsReady, OpensByHead, RefusesLog, RefusesFor, KeepsStanding};
-ghost use Rattle.recovery.specs.Widths.{IsWidth, IsLogFault};
+ghost use Rattle.zorder.specs.Width.{IsWidth};
+ghost use Rattle.recovery.specs.Widths.{IsLogFault};
 ghost use Rattle.recovery.specs.Wanted.{IsWidthFor, IsFaultFor, MayTell};
 
 use crate::inspecting::read_log;
@@ -53,7 +54,7 @@ pub fn open<D: LogDisk>(
     width: u8,
     most: u64,
 ) -> Result<Opened<D>, OpenRefused<D>>
-    requires width { (width ≡ 1) ⊎ (width ≡ 2) }
+    requires width { IsWidth width }
     requires few { most ≤ most_cells }
 
     ensures found { IfOk result (λ o. IsFound newest width most (D.drive disk) o.seen) }

@@ -4,7 +4,7 @@ ghost use Rattle.disk_trait.specs.Drive.{Stays, CountsFaults};
 ghost use Rattle.recovery.specs.Faults.{IsInBytes};
 ghost use Rattle.recovery.specs.Reading.{StartsFor, IsBehind, Advances, WalksOn, IsFilled, IsEmptied, NeedsNoPiece, Stops, IsSeenOf, OnlyReads, ReadsPiece};
 ghost use Rattle.recovery.specs.Walks.{IsOfHead};
-ghost use Rattle.recovery.specs.Widths.{IsWidth};
+ghost use Rattle.zorder.specs.Width.{IsWidth};
 ghost use Rattle.recovery.specs.Wanted.{IsFaultFor, MayTellFor};
 ghost use Rattle.recovery.specs.Room.{IsNoLess, HasRoom, HasRoomForMore};
 

@@ -1,5 +1,7 @@
 //! Goes over cells one by one, and keeps the state after them.
 ghost use Rattle.std.specs.Prelude.{◌≡◌, ◌⊎◌, IfOk, OnOk};
+ghost use Rattle.cell_format.specs.Spelling.{IsVersion};
+ghost use Rattle.zorder.specs.Width.{IsWidth};
 ghost use Rattle.cell_format.specs.declared.cell.Cell.{Cell};
 ghost use Rattle.plain_list.specs.State.{empty_state};
 ghost use Rattle.recovery.specs.Found.{Shows};
@@ -59,8 +61,8 @@ impl Model for Replay {
 impl Replay {
     /// Before the first cell of a log of this version.
     pub(crate) fn new(alloc: Global, version: u8, width: u8) -> Result<Replay, AllocError>
-        requires version { (version ≡ 1) ⊎ (version ≡ 2) }
-        requires width { (width ≡ 1) ⊎ (width ≡ 2) }
+        requires version { IsVersion version }
+        requires width { IsWidth width }
         ensures { IfOk result (λ w. w ≡ record { version = version; width = width; state = empty_state }) }
     {
         Ok(Replay {
@@ -76,7 +78,7 @@ impl Replay {
     /// The width of its splits.
     pub(crate) fn width(&self) -> u8
         ensures value { result ≡ self.now.width }
-        ensures known { (self.now.width ≡ 1) ⊎ (self.now.width ≡ 2) }
+        ensures known { IsWidth self.now.width }
     {
         self.width
     }
@@ -84,8 +86,8 @@ impl Replay {
     /// The version of the log.
     pub(crate) fn version(&self) -> u8
         ensures value { result ≡ self.now.version }
-        ensures known { (result ≡ 1) ⊎ (result ≡ 2) }
-        ensures width { (self.now.width ≡ 1) ⊎ (self.now.width ≡ 2) }
+        ensures known { IsVersion result }
+        ensures width { IsWidth self.now.width }
     {
         self.version
     }
@@ -202,7 +204,7 @@ impl Replay {
         requires { HasRoom self.now.state room }
         ensures shows { Shows self.now.state cells result }
         ensures version { result.version ≡ self.now.version }
-        ensures known { (self.now.version ≡ 1) ⊎ (self.now.version ≡ 2) }
+        ensures known { IsVersion self.now.version }
     {
         let (members, leaves) = room.into_parts();
         Seen {

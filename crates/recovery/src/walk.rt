@@ -9,7 +9,8 @@ ghost use Rattle.recovery.specs.Found.{Finds, IsWanted, IsFree};
 ghost use Rattle.recovery.specs.Reading.{StartsFor, OnlyReads};
 ghost use Rattle.recovery.specs.Room.{HasRoom};
 ghost use Rattle.recovery.specs.Walks.{ComesTo, ComesAlong, RefusesWalk, TellsWalked, TellsFault, TellsAll, IsOfHead};
-ghost use Rattle.recovery.specs.Widths.{IsWidth, HasWidth, IsLogFault, ShowsFault};
+ghost use Rattle.zorder.specs.Width.{IsWidth};
+ghost use Rattle.recovery.specs.Widths.{HasWidth, IsLogFault, ShowsFault};
 ghost use Rattle.recovery.specs.Wanted.{IsWidthFor, IsFaultFor, MayTell, MayTellLog};
 
 use crate::heads::FIRST;
@@ -65,7 +66,7 @@ impl<D: LogDisk> Walk<D> {
 
     /// The same in a log whose splits make `2 ^ width` children.
     pub fn start(alloc: Global, disk: D, width: u8, most: u64) -> Result<Walk<D>, OpenRefused<D>>
-        requires width { (width ≡ 1) ⊎ (width ≡ 2) }
+        requires width { IsWidth width }
 
         ensures begins { IfOk result (λ w. ComesTo width most [] (D.drive w.disk) w) }
         ensures fault { IfErr result (λ e. (bytes : List ℕ) → (D.drive disk).bytes ≡ Some bytes → IsFault 1 width most bytes e.cause) }

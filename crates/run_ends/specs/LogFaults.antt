@@ -1,4 +1,4 @@
--- What goes wrong with a log: the refusal of each fault, and why a log isn't read.
+-- The refusal of each fault of a log, and why a log isn't read.
 use Rattle.std.specs.Prelude.{ℕ, None, ⊤}
 use Rattle.causes.specs.Causes.{Rose}
 use Rattle.disk_trait.specs.Drive.{Drive}
@@ -11,7 +11,7 @@ use Rattle.recovery.specs.declared.seen.OpenFault.TheVariants as open_fault
 use Rattle.run_ends.specs.declared.refusals.Refusal.{Refusal}
 use Rattle.run_ends.specs.declared.refusals.Refusal.TheVariants as refusal
 
--- the refusal where a file wasn't attached
+-- the refusal of a fault of an attach
 abbrev pub attach_refusal : AttachFault → Refusal
 attach_refusal attach_fault.Disk = refusal.Disk None
 attach_refusal attach_fault.Memory = refusal.Memory
@@ -25,11 +25,11 @@ log_refusal open_fault.Disk = refusal.Disk None
 log_refusal open_fault.Memory = refusal.Memory
 log_refusal (open_fault.TooLong most) = refusal.LongLog
 
--- this is at fault in the drive's bytes, where they are known, and where they aren't, it may be
+-- if the drive's bytes are known, they have this fault; in each case it is one that such a reading may return
 abbrev pub HasFault : ℕ → ℕ → Drive → OpenFault → Type 0
 HasFault oldest most drive e = ShowsFault oldest most drive e × MayTellLog oldest most e
 
--- why such a log isn't read: what is first at fault in its bytes, the drive's count rose, or memory ran out
+-- why a log isn't read: the first fault of its bytes, a failure of the drive, or too little memory
 abbrev pub IsReadingCause : ℕ → ℕ → Drive → Drive → Refusal → Type 0
 IsReadingCause oldest most old new refusal.NotLog = HasFault oldest most old open_fault.NotLog
 IsReadingCause oldest most old new (refusal.OldLog version width) = HasFault oldest most old (open_fault.OldLog version width)

@@ -10,14 +10,14 @@ use Rattle.plain_list.specs.declared.world.Member.{Member}
 abbrev pub object_title : List ℕ
 object_title = codes "id,x,y,moment\n"
 
--- an object, where it is, and the moment of that
+-- the line of an object: its id, its point, and the moment of its position
 abbrev pub object_line : Member → List ℕ
 object_line m = decimal m.id ++ codes "," ++ decimal m.at.x ++ codes "," ++ decimal m.at.y ++ codes "," ++ decimal m.moment ++ codes "\n"
 
--- the line of an object in the box, and nothing of one outside it
+-- the line of an object in the box; an object outside the box has none
 abbrev pub line_in : Region → Member → List ℕ
 line_in region m = if has_point region m.at then object_line m else []
 
--- the first line, and a line for each of these objects that is in the box, in their order
+-- the title, and a line for each object that is in the box, in the order of the objects
 unfoldable pub objects_text : Region → List Member → List ℕ
 objects_text region objects = object_title ++ flat_map object_line (filter (λ (m : Member). has_point region m.at) objects)

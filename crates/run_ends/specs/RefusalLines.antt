@@ -6,7 +6,7 @@ use Rattle.cell_format.specs.declared.cell.Cause.TheVariants as cause
 use Rattle.run_ends.specs.declared.refusals.Refusal.{Refusal}
 use Rattle.run_ends.specs.declared.refusals.Refusal.TheVariants as refusal
 
--- the word of a cause of damage
+-- the word for a cause of damage
 abbrev pub cause_text : Cause → List ℕ
 cause_text cause.ShortCell = codes "short"
 cause_text cause.Kind = codes "kind"
@@ -14,7 +14,7 @@ cause_text cause.Reserved = codes "reserved"
 cause_text cause.BadName = codes "name"
 cause_text cause.Impossible = codes "impossible"
 
--- why there are no answers
+-- the words for a refusal
 abbrev pub reason_text : Refusal → List ℕ
 reason_text refusal.Usage = codes "usage"
 reason_text refusal.Header = codes "header"

@@ -1,4 +1,4 @@
--- The status of each refusal.
+-- The exit status of each refusal.
 use Rattle.std.specs.Prelude.{◌≡◌, ◌⊎◌, ℕ, Result, Ok, Err}
 use Rattle.run_ends.specs.declared.refusals.Refusal.{Refusal}
 use Rattle.run_ends.specs.declared.refusals.Refusal.TheVariants as refusal
@@ -21,11 +21,11 @@ status_of refusal.Memory = 9
 status_of (refusal.InUse len) = 10
 status_of (refusal.Strange cell) = 4
 
--- whether a status is one of a run that wrote its lines, all of them or a front
+-- whether a status is that of a run that wrote its lines, all of them (0) or a prefix (6)
 abbrev pub WritesLines : ℕ → Type 0
 WritesLines status = (status ≡ 0) ⊎ (status ≡ 6)
 
--- the status of lines that were written, all of them or a front
+-- the status of a command after it wrote its lines, all of them or a prefix
 abbrev pub written_status : {T E : Type 0} → Result T E → ℕ
 written_status (Ok x) = 0
 written_status (Err e) = 6

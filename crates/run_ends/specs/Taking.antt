@@ -7,7 +7,7 @@ use Rattle.run_ends.specs.declared.refusals.Refusal.{Refusal}
 use Rattle.run_ends.specs.RefusalLines.{refusal_text}
 use Rattle.run_ends.specs.Status.{status_of}
 
--- the sink took a line, or its count of faults rose and it took a prefix of the line
+-- the sink took the line, or it failed and took a prefix of the line
 abbrev pub TakesLine : List ℕ → Output → Output → Type 0
 TakesLine line old new = Appends old.taken new.taken line ⊎ (Rose old.faults new.faults × ((n : ℕ) × Appends old.taken new.taken (take n line)))
 

@@ -1,4 +1,4 @@
-//! The file of a log is attached.
+//! Attaches the file of a log to a drive.
 ghost use Rattle.std.specs.Prelude.{IfErr, OnOk};
 ghost use Rattle.run_ends.specs.Attaching.{Attaches, RefusesAttach};
 
@@ -7,7 +7,7 @@ use crate::refusals::Refusal;
 use disk_trait::LogDisk;
 use std::alloc::Global;
 
-/// Attaches the file of this name to a drive, and makes it where it isn't there and `make` is true.
+/// Attaches the file of this name to a drive. If the file isn't there and `make` is true, the file is created.
 pub fn attach<D: LogDisk>(
     alloc: Global,
     file: &str,

@@ -1,4 +1,4 @@
-//! What a command gives back.
+//! What a command returns.
 ghost use Rattle.std.specs.Prelude.{◌≡◌, [], ◌≤◌};
 ghost use Rattle.run_ends.specs.Taking.{Refuses};
 
@@ -8,14 +8,15 @@ use io_edge::Sink;
 use plain_list::Entries;
 use std::alloc::Global;
 
-/// Both drives of a run. Most commands leave the other one alone.
+/// Both drives of a run. Only `compact` and `follow` use the second one.
 #[derive(Drop)]
 pub struct Drives<D: Drop> {
     pub disk: D,
     pub other: D,
 }
 
-/// What a command gives back: its status, the history of the rows that it called, which is empty where it called none, and both drives.
+/// What a command returns: its status, the history of the rows that it called, and both drives. The history is empty if
+/// it called none.
 #[derive(Drop)]
 pub struct Ended<D: Drop> {
     pub status: u8,
@@ -23,7 +24,7 @@ pub struct Ended<D: Drop> {
     pub drives: Drives<D>,
 }
 
-/// Ends a command with this status, where no row was called.
+/// Ends a command that called no row, with this status.
 pub fn without_rows<D: Drop>(alloc: Global, status: u8, drives: Drives<D>) -> Ended<D>
     ensures { result ≡ record { status = status; history = []; drives = drives } }
 {
@@ -34,7 +35,7 @@ pub fn without_rows<D: Drop>(alloc: Global, status: u8, drives: Drives<D>) -> En
     }
 }
 
-/// Ends a command with a refusal, where no row was called.
+/// Ends a command that called no row, with a refusal. It writes the line of the refusal.
 pub fn refuse_on<K: Sink, D: Drop>(
     alloc: Global,
     why: &Refusal,

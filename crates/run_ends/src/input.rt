@@ -1,4 +1,4 @@
-//! The rows of a source, or why there is nothing to play.
+//! Reads the rows of a source, or says why there is nothing to play.
 ghost use Rattle.std.specs.Prelude.{◌≡◌, ◌≢◌, ◌≤◌, ◌+◌, Ok, Err, IfOk, IfErr, length};
 ghost use Rattle.io_edge.specs.Reads.{ConsumesUpTo};
 ghost use Rattle.run_ends.specs.Limits.{most_bytes};
@@ -12,7 +12,7 @@ use csv_rows::{Rows, RowsFault, read_rows};
 use io_edge::{ReadFault, Source, read_all};
 use std::alloc::Global;
 
-/// All bytes that the source has, where they aren't too many. The order of refusals: source, length of the input.
+/// Reads all bytes of the source, at most 16 MiB. A failed source is refused before a long input.
 pub fn read_bytes<S: Source>(alloc: Global, source: &mut S) -> Result<Vec<u8>, Refusal>
     ensures bytes { IfOk result (λ bytes. HasBytes (S.input source.old) (S.input source.new) bytes.items) }
     ensures cause { IfErr result (IsBytesCause (S.input source.old) (S.input source.new)) }
@@ -27,7 +27,7 @@ pub fn read_bytes<S: Source>(alloc: Global, source: &mut S) -> Result<Vec<u8>, R
     }
 }
 
-/// The rows of the source. The order of refusals: source, length of the input, rows.
+/// Reads the rows of the source. A failed source is refused first, then a long input, then what is wrong with the rows.
 pub fn read_judged<S: Source>(alloc: Global, source: &mut S) -> Result<Rows, Refusal>
     ensures rows { IfOk result (ReadsInput (S.input source.old) (S.input source.new)) }
     ensures cause { IfErr result (IsInputCause (S.input source.old) (S.input source.new)) }
@@ -40,7 +40,7 @@ pub fn read_judged<S: Source>(alloc: Global, source: &mut S) -> Result<Rows, Ref
     }
 }
 
-// The rows of an input that isn't too long.
+// The rows of an input of at most 16 MiB.
 fn judge(alloc: Global, bytes: &[u8]) -> Result<Rows, Refusal>
     requires { length bytes.now ≤ most_bytes }
     ensures rows { IfOk result (λ rows. judged bytes.now ≡ Ok rows) }
@@ -49,7 +49,7 @@ fn judge(alloc: Global, bytes: &[u8]) -> Result<Rows, Refusal>
     read_rows(alloc, bytes).map_err(refusal_of)
 }
 
-/// The refusal of what is wrong with the text of a table.
+/// The refusal for a fault of a table's text.
 pub fn refusal_of(fault: RowsFault) -> Refusal
     ensures { result ≡ refusal_of fault }
 {

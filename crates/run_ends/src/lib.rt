@@ -1,15 +1,17 @@
-//! What the commands of a run share: what they give back, refusals with their statuses and lines, the lines of commands, the attach of a
-//! file, what goes wrong with a log, and the tables of a source.
+//! What the commands of a run share: what they return, refusals with their statuses and lines, the lines of commands,
+//! the attach of a file, the faults of a log, and the tables of a source.
 //!
-//! Contracts see a run's ends as one value (`Ends`: source, sink, two drives), and what a command did as another: its ends before and
-//! after, its status and its history (`Done`). Each refusal has one status and one line, which `put_refusal` puts (`Refuses`).
-//! `refusal_line`, `write_made`, `write_counts`, `write_summary`, `write_compacted` and `write_objects` put exactly the texts of
-//! `RefusalLines`, `LogLines` and `ObjectLines`, and take no memory. `attach` says what it leaves, whatever it answers. `read_judged`
-//! promises the rows of all bytes that a source had, or the first thing that is wrong with them; `read_bytes` hands out these bytes for
-//! tables of other kinds (`judged_by`).
+//! Contracts see a run's source, sink and two drives as one value (`Ends`). They see what a command did as another
+//! (`Done`): its ends before and after, its status and its history. Each refusal has one status and one line, and
+//! `put_refusal` writes the line (`Refuses`).
 //!
-//! Not here: what a command does (`log_run`, `watch_run`, `follow_run`, `play_run`), which command words ask for (`command_words`), the
-//! texts of rows and answers (`csv_rows`).
+//! `refusal_line`, `write_made`, `write_counts`, `write_summary`, `write_compacted` and `write_objects` write exactly
+//! the texts of `RefusalLines`, `LogLines` and `ObjectLines`. They take no memory. `attach` says which file is attached
+//! after Ok and after each error. `read_judged` returns the rows of all bytes of a source, or the first thing that is
+//! wrong with them. `read_bytes` returns these bytes for tables of other kinds (`judged_by`).
+//!
+//! Not here: what a command does (`log_run`, `watch_run`, `follow_run`, `play_run`), which command some words mean
+//! (`command_words`), the texts of rows and answers (`csv_rows`).
 #![tactic(auto)]
 
 mod attaching;

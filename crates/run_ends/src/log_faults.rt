@@ -1,4 +1,4 @@
-//! The refusals of what goes wrong with a log.
+//! The refusals for faults of a log.
 ghost use Rattle.std.specs.Prelude.{◌≡◌};
 ghost use Rattle.run_ends.specs.LogFaults.{attach_refusal, log_refusal};
 
@@ -6,14 +6,14 @@ use crate::refusals::Refusal;
 use disk_trait::AttachFault;
 use recovery::OpenFault;
 
-/// The drive back, and why there is no log on it.
+/// The drive, returned with the reason why there is no log on it.
 #[derive(Drop)]
 pub struct Unmade<D: Drop> {
     pub disk: D,
     pub why: Refusal,
 }
 
-/// The refusal where a file wasn't attached.
+/// The refusal of a fault of an attach.
 pub(crate) fn attach_refusal(fault: AttachFault) -> Refusal
     ensures { result ≡ attach_refusal fault }
 {

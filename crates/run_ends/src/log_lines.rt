@@ -1,4 +1,4 @@
-//! Lines of counts: what was found in a log, what made rows leave, and what was written of a log.
+//! The lines of counts: what `check` found, what `trial` left, and what `compact` wrote.
 ghost use Rattle.std.specs.Prelude.{◌≡◌, ◌≤◌, ◌+◌, ◌++◌, length};
 ghost use Rattle.arrayvec.specs.ArrayVec.{array_vec_len};
 ghost use Rattle.causes.specs.Causes.{Counts};
@@ -8,7 +8,8 @@ ghost use Rattle.run_ends.specs.LogLines.{made_line, count_line, counts_text, su
 use csv_rows::{Piece, add_number, push_str};
 use io_edge::{Sink, SinkFault};
 
-/// How many of each a log was found to have: cells, points after them, leaves, and splits that haven't ended.
+/// What a log contains: the number of its records, of the objects and leaves after them, and of splits that haven't
+/// ended.
 #[derive(Clone, Copy, Debug, PartialEq, Eq)]
 pub struct LogCounts {
     pub cells: u64,
@@ -17,7 +18,7 @@ pub struct LogCounts {
     pub unfinished: u64,
 }
 
-/// What made rows leave: how many rows there were, how many points are left, and the sum of their keys modulo 2^64.
+/// What made rows leave: how many rows there were, how many objects are left, and the sum of their keys modulo 2^64.
 #[derive(Clone, Copy, Debug, PartialEq, Eq)]
 pub struct Summary {
     pub rows: u64,
@@ -25,7 +26,7 @@ pub struct Summary {
     pub sum: u64,
 }
 
-/// Writes that a log was made.
+/// Writes the line of `init`.
 pub fn write_made<K: Sink>(sink: &mut K) -> Result<(), SinkFault>
     ensures bytes { Puts (K.output sink.old).taken (K.output sink.new).taken made_line result }
     ensures cause { Counts (K.output sink.old).faults (K.output sink.new).faults result }
@@ -33,7 +34,7 @@ pub fn write_made<K: Sink>(sink: &mut K) -> Result<(), SinkFault>
     sink.put(b"made\n")
 }
 
-/// Writes the four lines of what was found in a log, as one piece.
+/// Writes the four lines of `check` as one piece.
 pub fn write_counts<K: Sink>(sink: &mut K, counts: &LogCounts) -> Result<(), SinkFault>
     ensures bytes { Puts (K.output sink.old).taken (K.output sink.new).taken (counts_text counts.now) result }
     ensures cause { Counts (K.output sink.old).faults (K.output sink.new).faults result }
@@ -46,7 +47,7 @@ pub fn write_counts<K: Sink>(sink: &mut K, counts: &LogCounts) -> Result<(), Sin
     sink.put(piece.as_slice())
 }
 
-/// Writes the three lines of what made rows leave, as one piece.
+/// Writes the three lines of `trial` as one piece.
 pub fn write_summary<K: Sink>(sink: &mut K, summary: &Summary) -> Result<(), SinkFault>
     ensures bytes { Puts (K.output sink.old).taken (K.output sink.new).taken (summary_text summary.now) result }
     ensures cause { Counts (K.output sink.old).faults (K.output sink.new).faults result }
@@ -58,7 +59,7 @@ pub fn write_summary<K: Sink>(sink: &mut K, summary: &Summary) -> Result<(), Sin
     sink.put(piece.as_slice())
 }
 
-/// Writes how many cells a log has that was written anew.
+/// Writes the line of `compact`, with the number of records of the new log.
 pub fn write_compacted<K: Sink>(sink: &mut K, cells: u64) -> Result<(), SinkFault>
     ensures bytes { Puts (K.output sink.old).taken (K.output sink.new).taken (compacted_line cells) result }
     ensures cause { Counts (K.output sink.old).faults (K.output sink.new).faults result }
@@ -68,7 +69,7 @@ pub fn write_compacted<K: Sink>(sink: &mut K, cells: u64) -> Result<(), SinkFaul
     sink.put(piece.as_slice())
 }
 
-/// Adds the line of a count.
+/// Adds the line of a count. `word` ends with a space.
 fn add_count(piece: &mut Piece, word: &str, count: u64)
     requires room { array_vec_len piece.old ≤ 1024 }
     requires word { length word.now ≤ 16 }

@@ -11,8 +11,8 @@ use io_edge::{Sink, SinkFault};
 use plain_list::Member;
 use zorder::Region;
 
-/// Writes a title and the line of each object that is in the box, in their order, in pieces of up to 64 KiB. Corners that no point lies
-/// between give the title alone.
+/// Writes a title and the line of each object that is in the box, in the order of the objects, in pieces of at most 64
+/// KiB. If no point lies between the corners, it writes only the title.
 pub fn write_objects<K: Sink>(
     sink: &mut K,
     objects: &[Member],
@@ -29,7 +29,7 @@ pub fn write_objects<K: Sink>(
     sink.put(piece.as_slice())
 }
 
-// Adds the line of an object where it is in the box.
+// Adds the line of an object if the object is in the box.
 fn add_within<K: Sink>(
     sink: &mut K,
     piece: &mut Piece,

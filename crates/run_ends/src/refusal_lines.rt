@@ -13,7 +13,7 @@ use cell_format::Cause;
 use csv_rows::{Piece, add_number, push_str};
 use io_edge::{Sink, SinkFault};
 
-/// Puts the line of a refusal, and gives its status, which stays where the line can't be written.
+/// Writes the line of a refusal, and returns its status. The status is the same if the sink fails.
 pub fn put_refusal<K: Sink>(refusal: &Refusal, sink: &mut K) -> u8
     ensures refused { Refuses refusal.now result (K.output sink.old) (K.output sink.new) }
     ensures later { (K.output sink.old).faults ≤ (K.output sink.new).faults }
@@ -46,7 +46,7 @@ fn status_of(refusal: &Refusal) -> u8
     }
 }
 
-/// Writes the line of a refusal, as one piece.
+/// Writes the line of a refusal as one piece.
 pub fn refusal_line<K: Sink>(sink: &mut K, refusal: &Refusal) -> Result<(), SinkFault>
     ensures bytes { Puts (K.output sink.old).taken (K.output sink.new).taken (refusal_text refusal.now) result }
     ensures cause { Counts (K.output sink.old).faults (K.output sink.new).faults result }

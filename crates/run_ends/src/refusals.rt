@@ -1,43 +1,43 @@
-//! Why a run gives no answers.
+//! Why a run of the program was refused.
 ghost use Rattle.std.specs.Prelude.{◌≡◌};
 
 use cell_format::Cause;
 use zorder::Memory;
 
-/// Why a run of the program gives no answers.
+/// Why a run of the program was refused. Each refusal has one line and one exit status.
 #[derive(Clone, Copy, Debug, PartialEq, Eq)]
 pub enum Refusal {
-    /// The words ask for no command.
+    /// The words are no command.
     Usage,
-    /// The input doesn't begin with the header of its table.
+    /// The input doesn't begin with the header line of its table.
     Header,
-    /// The record of this row has too few fields, or too many.
+    /// The record in this row has too few fields or too many.
     Csv { row: u32 },
     /// This column, counted from 1, is the leftmost of its row that breaks its rule.
     Field { row: u32, column: u8 },
     /// The file doesn't begin as a log does.
     NotLog,
-    /// The head names a version or a width that isn't read, or over which no rows are played.
+    /// The log has a version or a width that this command doesn't take.
     OldLog { version: u8, width: u8 },
-    /// This cell, counted from 0, is the first whose bytes say nothing legal there.
+    /// This record, counted from 0, is the first whose bytes are no legal record at its place.
     Damaged { cell: u64, cause: Cause },
     /// A read of the source failed.
     Source,
-    /// A call of the drive failed: with the cell whose append failed; without one where no append did.
+    /// A call of the drive failed. If it was an append, `cell` is the record that was not appended, counted from 0.
     Disk { cell: Option<u64> },
     /// The source has more than 16,777,216 bytes.
     LongInput,
-    /// The input has more rows than its table may.
+    /// The input has more rows than its table may have.
     ManyRows,
-    /// The log has more cells than are read.
+    /// The log has more records than this command reads.
     LongLog,
-    /// More crossings of fences come along the log than are kept.
+    /// The log has more crossings of fences than the command keeps.
     LongEvents,
     /// Memory ran out.
     Memory,
-    /// The file in which a log is to be made has more than 17 bytes: this many.
+    /// The file for a new log is in use: it has `len` bytes, which is more than 17.
     InUse { len: u64 },
-    /// This is the first cell of a log that isn't the one that another log has there.
+    /// This record of a copy, counted from 0, is the first that differs from the leader's.
     Strange { cell: u64 },
 }
 

@@ -7,7 +7,7 @@ use Rattle.disk_trait.specs.Moments.{LeavesOnly, LeavesNow}
 use Rattle.disk_trait.proofs.Stretches.{started, goes_on}
 use Rattle.cell_format.specs.declared.cell.Cell.{Cell}
 use Rattle.cell_format.specs.Spelling.{newest}
-use Rattle.split_log.specs.LogText.{front_of, HoldsCells, HoldsAllOrNone, HoldsEither, IsLog}
+use Rattle.split_log.specs.LogText.{front_of, HoldsCells, HoldsAllOrNone, IsLog}
 use Rattle.split_log.specs.Append.{IsReady}
 use Rattle.split_log.specs.Commit.{IsUncommitted, StandsAfter}
 use Rattle.split_log.proofs.Torn.{marked, torn_behind, written_behind}
@@ -19,7 +19,7 @@ pub before_all : (w : ℕ) (cells : List Cell) (drive : Drive) → KeepsLaws dri
 before_all w cells drive laws log =
     started drive (HoldsCells newest w cells) laws (λ c left. holds_front w cells log.bytes [] c log.text (log.durable c left ∙ sym (append-nil log.bytes)))
 
-module _ (w : ℕ) (cells : List Cell) (cell : Cell) (piece : List ℕ) (at : ℕ) (d0 : Drive) (ready : IsReady w cells cell piece d0) (laws : KeepsLaws d0)
+module _ (w : ℕ) (cells more : List Cell) (piece : List ℕ) (at : ℕ) (d0 : Drive) (ready : IsReady w cells more piece d0) (laws : KeepsLaws d0)
     (whole : (xs : List ℕ) → d0.bytes ≡ Some xs → length xs ≡ at + 1) where
   long : length (front_of newest w cells) ≡ at
   long =
@@ -41,19 +41,19 @@ module _ (w : ℕ) (cells : List Cell) (cell : Cell) (piece : List ℕ) (at : �
     pub written : LeavesOnly d0 d1 (HoldsCells newest w cells)
     written = goes_on d0 d0 d1 (HoldsCells newest w cells) (before_all w cells d0 laws ready.log) first.time now_written
 
-    pub written-either : LeavesOnly d0 d1 (HoldsEither w cells cell)
-    written-either = only-none w cells (cell ∷ []) d0 d1 written
+    pub written-either : LeavesOnly d0 d1 (HoldsAllOrNone w cells more)
+    written-either = only-none w cells more d0 d1 written
 
     -- where it succeeded, the cell lies behind the commit byte
-    pub uncommitted : ((xs : List ℕ) → d0.bytes ≡ Some xs → (ys : List ℕ) × (d1.bytes ≡ Some ys) × Holds xs (at + 1) piece ys) → IsUncommitted w at cells (cell ∷ []) d1
+    pub uncommitted : ((xs : List ℕ) → d0.bytes ≡ Some xs → (ys : List ℕ) × (d1.bytes ≡ Some ys) × Holds xs (at + 1) piece ys) → IsUncommitted w at cells more d1
     uncommitted stands =
         let log = ready.log in
         let (ys, told, holds) = stands log.bytes log.told in
         let holds_text : Holds (marked (front_of newest w cells) log.text.commit_byte []) (at + 1) piece ys = subst (λ f. Holds f (at + 1) piece ys) log.text.text holds in
         record {
           cells_fit = log.text.cells_fit;
-          more_fit = (ready.fits, tt);
-          some = λ e. cc e;
+          more_fit = ready.fits;
+          some = ready.some;
           at_is = sym long ∙ length-front_of newest w cells;
           bytes = ys;
           told = told;
@@ -66,10 +66,10 @@ module _ (w : ℕ) (cells : List Cell) (cell : Cell) (piece : List ℕ) (at : �
 
     -- and then it was committed, or a call of that failed
     module _ (d2 : Drive) where
-      pub placing : LeavesOnly d1 d2 (HoldsAllOrNone w cells (cell ∷ [])) → LeavesOnly d0 d2 (HoldsEither w cells cell)
-      placing after = none-then w cells (cell ∷ []) d0 d1 d2 written after
+      pub placing : LeavesOnly d1 d2 (HoldsAllOrNone w cells more) → LeavesOnly d0 d2 (HoldsAllOrNone w cells more)
+      placing after = none-then w cells more d0 d1 d2 written after
 
-      pub unplaced : (went_well : ℕ) → StandsAfter w cells (cell ∷ []) went_well d1 d2 → StandsAfter w cells (cell ∷ []) went_well d0 d2
+      pub unplaced : (went_well : ℕ) → StandsAfter w cells more went_well d1 d2 → StandsAfter w cells more went_well d0 d2
       unplaced went_well after = record {
         unstaged = λ few.
             joined d0 d1 d2 (HoldsCells newest w cells) (HoldsCells newest w cells) (HoldsCells newest w cells) (λ c holds. holds) (λ c holds. holds) written (after.unstaged few);

@@ -1,25 +1,31 @@
-//! The four device calls that add a cell.
-ghost use Rattle.std.specs.Prelude.{◌≡◌, ◌+◌, ◌≤◌, ◌^◌, ◌∷◌, [], ◌++◌, ℕ, List, Some, OnOk, OnErr, is_some, length};
+//! The four device calls that add cells.
+ghost use Rattle.std.specs.Prelude.{◌≡◌, ◌+◌, ◌≤◌, ◌^◌, ◌∷◌, [], ◌++◌, ℕ, List, Some, OnOk, OnErr, IfOk, is_some, length};
 ghost use Rattle.disk_trait.specs.Drive.{CountsFaults, MadeWell};
 ghost use Rattle.disk_trait.specs.Moments.{LeavesOnly};
 ghost use Rattle.cell_format.specs.declared.cell.Cell.{Cell};
-ghost use Rattle.cell_format.specs.Spelling.{newest, IsCell, body_of};
-ghost use Rattle.split_log.specs.LogText.{IsLog, HoldsEither};
+ghost use Rattle.cell_format.specs.Spelling.{newest, IsCell, body_of, spelling};
+ghost use Rattle.std.specs.List.{flat_map, AllByRecursion};
+ghost use Rattle.split_log.specs.LogText.{IsLog, HoldsAllOrNone};
+ghost use Rattle.split_log.specs.LogView.{most_cells};
 ghost use Rattle.split_log.specs.Append.{IsReady, Breaks};
 
 use crate::committing::commit;
 use cell_format::{Cell, encode};
 use disk_trait::{DiskFault, LogDisk};
+use std::alloc::{AllocError, Global};
+
+/// The bytes of a cell.
+const CELL: usize = 32;
 
 /// Writes a piece behind the clear commit byte at a place, and then sets that byte.
 pub(crate) fn place<D: LogDisk>(disk: &mut D, at: u64, piece: &[u8]) -> Result<(), DiskFault>
     requires whole { (xs : List ℕ) → (D.drive disk.old).bytes ≡ Some xs → length xs ≡ at + 1 }
     requires small { at + 1 + length piece.now ≤ 2 ^ 40 }
 
-    ensures any_moment { (w : ℕ) (cells : List Cell) (cell : Cell) → IsReady w cells cell piece.now (D.drive disk.old)
-        → LeavesOnly (D.drive disk.old) (D.drive disk.new) (HoldsEither w cells cell) }
-    ensures placed { OnOk result ((w : ℕ) (cells : List Cell) (cell : Cell) → IsReady w cells cell piece.now (D.drive disk.old)
-        → IsLog w (cells ++ cell ∷ []) (D.drive disk.new)) }
+    ensures any_moment { (w : ℕ) (cells more : List Cell) → IsReady w cells more piece.now (D.drive disk.old)
+        → LeavesOnly (D.drive disk.old) (D.drive disk.new) (HoldsAllOrNone w cells more) }
+    ensures placed { OnOk result ((w : ℕ) (cells more : List Cell) → IsReady w cells more piece.now (D.drive disk.old)
+        → IsLog w (cells ++ more) (D.drive disk.new)) }
     ensures calls { OnOk result (MadeWell 4 (D.drive disk.old) (D.drive disk.new)) }
     ensures unplaced { OnErr result (Breaks piece.now (D.drive disk.old) (D.drive disk.new)) }
     ensures told { is_some (D.drive disk.new).bytes ≡ is_some (D.drive disk.old).bytes }
@@ -27,6 +33,21 @@ pub(crate) fn place<D: LogDisk>(disk: &mut D, at: u64, piece: &[u8]) -> Result<(
 {
     disk.write(at + 1, piece)?;
     commit(disk, at)
+}
+
+/// The text of cells, each with its commit byte set, and a clear one after the last.
+pub(crate) fn text_of(alloc: Global, cells: &[Cell]) -> Result<Vec<u8>, AllocError>
+    requires few { length cells.now ≤ most_cells }
+
+    ensures text { IfOk result (λ text. text.items ≡ flat_map spelling cells.now ++ 0 ∷ []) }
+    ensures fits { OnOk result (AllByRecursion (IsCell newest) cells.now) }
+{
+    let mut text = Vec::with_capacity(alloc, CELL * cells.len() + 1)?;
+    for cell in cells {
+        text.extend_from_slice(&encode(cell))?;
+    }
+    text.push(0)?;
+    Ok(text)
 }
 
 /// A cell without its commit byte, and a clear one for the cell after it.

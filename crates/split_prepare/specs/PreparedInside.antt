@@ -1,10 +1,10 @@
--- What the fields of a prepared split stand for.
+-- The value of a prepared split, given by its fields.
 use Rattle.std.specs.Prelude.{map}
 use Rattle.std.specs.Arc.{arc_value}
 use Rattle.split_prepare.specs.declared.prepared.Prepared.TheInside.{Inside}
 use Rattle.split_prepare.specs.Prepared.{PreparedView, IsPrepared}
 
--- the rows that were cut are the base of the bucket that is shared with the ticket
+-- the rows that were cut are the base of the bucket, which the ticket shares
 abbrev pub seen : Inside → PreparedView
 seen p = record { number = p.number; name = p.name; width = p.width; base = (arc_value p.bucket).base; children = map arc_value p.children.items }
 

@@ -1,10 +1,10 @@
-//! Cuts a bucket into those of its leaf's children, outside the lock.
+//! Cuts a bucket into the buckets of its leaf's children, outside the lock.
 //!
-//! Contracts see a `Prepared` as a record of number, name, width, base rows and children. `prepare` cuts the rows that
-//! were the ticket's base: each child is a bucket of those whose keys lie under its name (`cut`), in key order. Of every
-//! `Prepared` it tells what holds (`IsPrepared`). The rows of a base are cut and compared here, and handed out to nobody.
+//! Contracts see a `Prepared` as a record of the split's number, name, width, base rows and children. `prepare` cuts
+//! the base of the ticket's bucket. Each child is a bucket of the rows whose keys are under its name (`cut`), in key
+//! order. `IsPrepared` holds of every `Prepared`. No call returns base rows.
 //!
-//! Not here: which splits may begin (`commit_book`), and what a child gets of the rows that came since (`point_table`).
+//! Not here: which splits may begin (`commit_book`), and how a child gets the rows that came later (`point_table`).
 #![tactic(auto)]
 
 mod cuts;

@@ -1,4 +1,4 @@
-//! What is ready to be installed.
+//! A split that is ready to be installed.
 ghost use Rattle.std.specs.Prelude.{◌≡◌, map};
 ghost use Rattle.std.specs.Arc.{arc_value};
 ghost use Rattle.bucket_versions.specs.Rows.{same_rows};
@@ -9,7 +9,7 @@ use std::marker::Model;
 use std::sync::Arc;
 use zorder::Name;
 
-/// A split's number and name, the rows that were cut, and the children that they were cut into.
+/// A split's number and name, the rows that were cut, and the children's buckets.
 #[derive(Drop)]
 pub struct Prepared {
     pub(crate) number: u64,
@@ -32,14 +32,14 @@ impl Model for Prepared {
 }
 
 impl Prepared {
-    /// The number of the split.
+    /// Returns the number of the split.
     pub fn number(&self) -> u64
         ensures { result ≡ self.now.number }
     {
         self.number
     }
 
-    /// The name of the leaf.
+    /// Returns the name of the leaf to be split.
     pub fn name(&self) -> Name
         ensures name { result ≡ self.now.name }
         ensures prepared { IsPrepared self.now }
@@ -47,7 +47,7 @@ impl Prepared {
         self.name
     }
 
-    /// Whether the rows that were cut are the base of a bucket.
+    /// Returns whether the children were cut from the base of this bucket.
     pub fn is_cut_from(&self, bucket: &Bucket) -> bool
         ensures base { result ≡ same_rows bucket.now.base self.now.base }
         ensures prepared { IsPrepared self.now }
@@ -55,7 +55,7 @@ impl Prepared {
         bucket.has_base_of(&self.bucket)
     }
 
-    /// The children's buckets, in key order.
+    /// Returns the children's buckets, in key order.
     pub fn children(&self) -> &[Arc<Bucket>]
         ensures children { map arc_value result.now ≡ self.now.children }
         ensures prepared { IsPrepared self.now }

@@ -1,4 +1,4 @@
-//! A ticket, and what was prepared of it, may be sent to another thread.
+//! Checks at compile time that a ticket and a `Prepared` can be sent to other threads.
 use crate::prepared::Prepared;
 use crate::ticket::SplitTicket;
 

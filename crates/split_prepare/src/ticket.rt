@@ -1,9 +1,9 @@
-//! What the begin of a split hands out.
+//! The ticket that the begin of a split returns.
 use bucket_versions::Bucket;
 use std::sync::Arc;
 use zorder::Name;
 
-/// A split that was begun: its number, the leaf's name, and the leaf's bucket as it was then.
+/// A split that has begun: its number, the leaf's name, and the leaf's bucket at the begin.
 #[derive(Drop)]
 pub struct SplitTicket {
     pub number: u64,

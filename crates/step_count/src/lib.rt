@@ -1,9 +1,9 @@
-//! Counts steps of work for contracts alone: nothing of it is there at run time.
+//! Counts steps of work for contracts. The count exists in proofs only and costs nothing at run time.
 //!
-//! Contracts see `Steps` as a number. `Steps::new` begins at 0, `tick` adds one, and no other call changes it, so a
-//! function that takes `&mut Steps` says in its contract how much work of a kind it does.
+//! Contracts see `Steps` as a number. `Steps::new` begins at 0, `tick` adds one, and no other call changes it. So the
+//! contract of a function that takes `&mut Steps` says how much work of a kind the function does.
 //!
-//! Not here: what a step is. Each function that ticks says so.
+//! Not here: what a step is. Each function that ticks says what it counts.
 #![tactic(auto)]
 
 mod steps;

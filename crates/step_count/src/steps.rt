@@ -1,10 +1,10 @@
-//! The count, kept by the tokens of a ledger.
+//! The count, kept in a ledger of the standard library.
 ghost use Rattle.std.specs.Prelude.{◌≡◌, ◌+◌};
 
 use std::marker::Model;
 use std::sync::ledger::{Blank, Book, Ledger, Share};
 
-/// A number of steps, of no size: the total of the ledger `L`, whose one share has all parts.
+/// A number of steps, of zero size. It is the total of the ledger `L`, whose one share has all parts.
 #[derive(Drop)]
 pub struct Steps<L: Ledger> {
     book: Book<L>,
@@ -22,8 +22,8 @@ impl<L: Ledger> Model for Steps<L> {
 }
 
 impl<L: Ledger> Steps<L> {
-    /// Begins the count of a ledger of one part. Who has no ledger hands `Blank::new(1)` to a function over `L: Ledger`,
-    /// called with `Brand` for `L`.
+    /// Starts a count at 0. `blank` is the blank of a ledger with one part. A caller without a ledger calls a function
+    /// over `L: Ledger` with `Blank::new(1)`, and with `Brand` for `L`.
     pub fn new(blank: Blank) -> Steps<L>
         requires name { blank.name ≡ L.name }
         requires parts { blank.parts ≡ L.parts }

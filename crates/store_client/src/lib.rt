@@ -19,10 +19,10 @@ mod shares;
 mod verbs;
 
 pub use answers::{Listed, MoveReply, PutReply, Report};
-pub use changes::Change;
 pub use client::{Client, Reply};
 pub use crowd::{Work, Worker, at_once};
 pub use limits::{
     MOST_CELLS, MOST_CELLS_TO_BEGIN, MOST_CLIENTS, MOST_EVENTS, MOST_EVENTS_TO_BEGIN, MOST_LISTED,
     MOST_MEMBERS, MOST_NEAREST,
 };
+pub use plain_list::Change;

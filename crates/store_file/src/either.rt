@@ -1,6 +1,7 @@
 //! Opens a store over one of two files.
 ghost use Rattle.std.specs.Prelude.{◌≡◌, ◌⊎◌, ◌↔◌, true, false, None, IfOk, IfErr, IsTrue};
 ghost use Rattle.std.specs.Result.{IsErrAnd};
+ghost use Rattle.zorder.specs.Width.{IsWidth};
 ghost use Rattle.recovery.specs.declared.seen.OpenFault.{OpenFault};
 ghost use Rattle.commit_book.specs.OpenedLog.{IsOpenedLog};
 ghost use Rattle.log_compact.specs.Clearing.{Clears, KeepsOrClears};
@@ -167,7 +168,7 @@ fn open_both<D: LogDisk>(
     second_file: &str,
     width: u8,
 ) -> Result<Both<D>, NotEither<D>>
-    requires { (width ≡ 1) ⊎ (width ≡ 2) }
+    requires { IsWidth width }
 
     ensures one { IfOk result (λ b. OpensFile width first_file.now (D.drive first)
         (D.drive b.one.start.value) (D.drive b.one.log.disk) b.one.seen) }

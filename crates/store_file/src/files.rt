@@ -1,6 +1,7 @@
 //! The log in a file, made where there is none, and opened.
 ghost use Rattle.std.specs.Prelude.{◌≡◌, ◌⊎◌, ◌<◌, None, IfOk, IfErr};
 ghost use Rattle.std.specs.Result.{IsErrAnd};
+ghost use Rattle.zorder.specs.Width.{IsWidth};
 ghost use Rattle.recovery.specs.declared.seen.OpenFault.{OpenFault};
 ghost use Rattle.store_file.specs.Files.{ReadiesLog, OpensFile, CanOpen, ShowsFault};
 ghost use Rattle.store_file.specs.Refused.{NotOpens, IsFreeCause};
@@ -18,7 +19,7 @@ pub(crate) fn open_file<D: LogDisk>(
     file: &str,
     width: u8,
 ) -> Result<Opened<D>, NotOpened<D>>
-    requires { (width ≡ 1) ⊎ (width ≡ 2) }
+    requires { IsWidth width }
 
     ensures opened { IfOk result (λ o. OpensFile width file.now (D.drive disk) (D.drive o.start.value) (D.drive o.log.disk) o.seen) }
     ensures log { IfOk result (λ o. (o.log.cells ≡ o.seen.cells) × (o.log.failed ≡ None)) }
@@ -44,7 +45,7 @@ fn ready_log<D: LogDisk>(
     file: &str,
     width: u8,
 ) -> Result<D, NotOpened<D>>
-    requires { (width ≡ 1) ⊎ (width ≡ 2) }
+    requires { IsWidth width }
 
     ensures ready { IfOk result (λ new. ReadiesLog width file.now (D.drive disk) (D.drive new)) }
     ensures refused { IfErr result (λ e. NotOpens width file.now (D.drive disk) (D.drive e.disk) e.cause) }

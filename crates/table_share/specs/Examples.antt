@@ -1,4 +1,4 @@
--- Worked numbers.
+-- Worked values, computed.
 use Rattle.std.specs.Prelude.{◌≡◌, [], ◌∷◌}
 use Rattle.std.proofs.Common.{refl}
 use Rattle.zorder.specs.Examples.{pt}

@@ -1,10 +1,10 @@
--- The objects that rows stand for.
+-- The objects that rows represent.
 use Rattle.std.specs.Prelude.{List, map}
 use Rattle.zorder.specs.declared.points.Placed.{Placed}
 use Rattle.zorder.specs.Key.{point_of}
 use Rattle.bucket_versions.specs.declared.row.Row.{Row}
 
--- the object with the row's id, at the point with the row's key
+-- the object with the row's id, at the point of the row's key
 abbrev pub placed_of : Row → Placed
 placed_of r = record { id = r.id; at = point_of r.key }
 

@@ -10,7 +10,7 @@ pub use Rattle.index_layer.specs.Subtree.{subtree}
 abbrev pub leaves_of : (List Bool → Bool) → List Leaf → List Leaf
 leaves_of passes leaves = filter (λ (l : Leaf). passes l.name) leaves
 
--- whether some key from one to another is under a name
+-- whether some key from `lo` to `hi` is under a name
 abbrev pub shares_key : ℕ → ℕ → List Bool → Bool
 shares_key lo hi name = nat_le (first_key name) hi && nat_lt lo (next_key name)
 

@@ -1,4 +1,4 @@
--- Numbers of all objects.
+-- Two numbers that summarize all objects.
 use Rattle.std.specs.Prelude.{ℕ, ◌+◌, ◌-◌, ◌%◌, ◌^◌, min, List, length}
 use Rattle.std.specs.List.{sum_by}
 use Rattle.zorder.specs.Key.{key_of}
@@ -10,10 +10,10 @@ use Rattle.table_share.specs.declared.sums.Sums.{Sums}
 abbrev pub key_sum : List Placed → ℕ
 key_sum places = sum_by (λ (m : Placed). key_of m.at) places
 
--- how many objects there are, and the sum of their keys modulo 2^64
+-- the number of objects, and the sum of their keys modulo 2^64
 abbrev pub sums_of : List Placed → Sums
 sums_of places = record { points = length places; sum = key_sum places % 2 ^ 64 }
 
--- one row more
+-- the numbers with one more row
 abbrev pub with_row : Sums → Row → Sums
 with_row sums r = record { points = min (sums.points + 1) (2 ^ 64 - 1); sum = (sums.sum + r.key) % 2 ^ 64 }

@@ -10,7 +10,7 @@ use index_layer::Index;
 use std::sync::ledger::Ledger;
 use step_count::Steps;
 
-/// What the function makes of the rows in turn, from the first key to the last. Each bucket is opened once, which is a step.
+/// Folds `f` over all rows in the order of their keys. It opens each bucket once, and each is one step.
 pub fn for_rows<I: Index, T, F: Fn(T, &Row) -> T, L: Ledger>(
     index: &I,
     start: T,

@@ -1,9 +1,9 @@
-//! One table of rows, in the order of their keys, over any index.
+//! All rows of an index as one table, in the order of their keys.
 //!
-//! Contracts see an index as its leaves, and the table as the rows of all leaves, one leaf after the other (`all_rows`).
-//! `scan` gives the rows from one key to another, `for_rows` folds over all of them. Both walk by `LeafWalk`, which gives
-//! each leaf once, in order, and which the queries above use too. A row stands for an object by `placed`. `sum_up` gives
-//! two numbers that tell the objects of one index from most others: how many there are, and the sum of their keys.
+//! Contracts see an index as its leaves, and the table as the rows of all leaves, one leaf after the other
+//! (`all_rows`). `scan` returns the rows with keys in a range. `for_rows` folds over all rows. `LeafWalk` returns each
+//! leaf once, in order. `placed` converts a row to its object. `sum_up` returns the number of objects and the sum of
+//! their keys, by which two indexes with different objects mostly differ.
 //!
 //! Not here: which objects are in a box (`range_query`) or nearest (`knn_query`), and the text of these numbers
 //! (`csv_rows`).

@@ -1,4 +1,4 @@
-//! The rows from one key to another.
+//! The rows with keys in a range.
 ghost use Rattle.std.specs.Prelude.{◌≡◌, ◌≤◌, ◌+◌, ◌++◌, OnOk, IfOk, length};
 ghost use Rattle.bucket_versions.specs.Rows.{IsRows, rows_between};
 ghost use Rattle.index_layer.specs.Leaves.{all_rows};
@@ -12,8 +12,9 @@ use std::sync::ledger::Ledger;
 use step_count::Steps;
 use zorder::{Memory, Name, child};
 
-/// The rows with keys from `lo` to `hi`, both included, in order. Each bucket that it opens is a step. It walks down from
-/// the top, and passes over a subtree that shares no key with the range.
+/// Returns the rows with keys from `lo` to `hi`, both included, in order. It opens the bucket of each leaf that shares
+/// a key with the range, and each is one step. It goes down from the top and skips each subtree that shares no key with
+/// the range.
 pub fn scan<I: Index, L: Ledger>(
     alloc: Global,
     index: &I,
@@ -40,7 +41,7 @@ pub fn scan<I: Index, L: Ledger>(
     Ok(found)
 }
 
-// The rows of the leaves whose names begin with this one.
+// Appends the rows of the range in the leaves whose names begin with `name`.
 fn push_subtree<I: Index, L: Ledger>(
     found: &mut Vec<Row>,
     index: &I,
@@ -67,7 +68,7 @@ fn push_subtree<I: Index, L: Ledger>(
     }
 }
 
-// Whether some key of the range is under the name.
+// Returns whether some key of the range is under the name.
 fn shares(name: &Name, lo: u64, hi: u64) -> bool
     ensures { result ≡ shares_key lo hi name.now }
 {

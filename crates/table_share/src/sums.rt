@@ -1,4 +1,4 @@
-//! Numbers of all objects.
+//! Two numbers that summarize all objects.
 ghost use Rattle.std.specs.Prelude.{◌≡◌, ◌+◌, length};
 ghost use Rattle.table_share.specs.Standing.{OfPlaces};
 ghost use Rattle.table_share.specs.Sums.{sums_of, with_row};
@@ -9,14 +9,15 @@ use index_layer::Index;
 use std::sync::ledger::Ledger;
 use step_count::Steps;
 
-/// How many objects there are, and the sum of the keys of their points modulo 2^64.
+/// The number of objects, and the sum of the keys of their points modulo 2^64.
 #[derive(Clone, Copy, Debug, PartialEq, Eq)]
 pub struct Sums {
     pub points: u64,
     pub sum: u64,
 }
 
-/// The numbers of all objects of an index. Each bucket is opened once, which is a step. It takes no memory.
+/// Returns the numbers for all objects of an index. It opens each bucket once, each is one step, and it takes no
+/// memory.
 pub fn sum_up<I: Index, L: Ledger>(index: &I, steps: &mut Steps<L>) -> Sums
     ensures sums { OfPlaces (I.leaves index.now) (λ places. result ≡ sums_of places) }
     ensures opened { steps.new ≡ steps.old + length (I.leaves index.now) }
@@ -30,7 +31,7 @@ pub fn sum_up<I: Index, L: Ledger>(index: &I, steps: &mut Steps<L>) -> Sums
     )
 }
 
-// One row more.
+// Returns the numbers with one more row.
 fn with_row(sums: Sums, row: &Row) -> Sums
     ensures { result ≡ with_row sums row.now }
 {

@@ -1,4 +1,4 @@
-//! All leaves of an index, one after the other.
+//! A walk over all leaves of an index.
 ghost use Rattle.std.specs.Prelude.{◌≡◌, ◌∷◌, [], MatchOption};
 ghost use Rattle.std.specs.Arc.{arc_value};
 
@@ -9,7 +9,7 @@ use std::marker::Model;
 use std::sync::Arc;
 use zorder::Name;
 
-/// A walk over an index, which contracts see as the leaves that are left.
+/// A walk over the leaves of an index. Contracts see it as the list of the leaves that are left.
 #[derive(Drop)]
 pub struct LeafWalk<'a, I: Index> {
     index: &'a I,
@@ -30,7 +30,7 @@ impl<'a, I: Index> Model for LeafWalk<'a, I> {
 }
 
 impl<'a, I: Index> LeafWalk<'a, I> {
-    /// A walk that begins at the first leaf.
+    /// Creates a walk that begins at the first leaf.
     pub fn over(index: &'a I) -> LeafWalk<'a, I>
         ensures { result ≡ I.leaves index.now }
     {
@@ -40,7 +40,7 @@ impl<'a, I: Index> LeafWalk<'a, I> {
         }
     }
 
-    /// The next leaf's name and bucket; behind the last one it stays at its end. It opens no bucket.
+    /// Returns the next leaf's name and bucket. After the last leaf, each call returns `None`. No call opens a bucket.
     pub fn next_leaf(&mut self) -> Option<(Name, &'a Arc<Bucket>)>
         ensures { MatchOption result ((self.old ≡ []) × (self.new ≡ [])) (λ leaf. self.old ≡ record { name = leaf.0; bucket = arc_value leaf.1.now } ∷ self.new) }
     {

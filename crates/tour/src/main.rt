@@ -1,7 +1,9 @@
-//! Runs several commands one after the other, each as the program would, and ends with the status of the last. A word `;` ends a command.
+//! Runs several commands in sequence, each as the program would. The exit status is that of the last one. The word `;`
+//! ends a command.
 //!
-//! One that begins with `from` and the name of a file reads that file in place of standard input. With `count` in place of `from` it tells
-//! how many lines it has in place of these: so among them can stand a play of many sessions, whose places differ from run to run.
+//! A command that begins with `from FILE` reads FILE in place of standard input. So does one that begins with
+//! `count FILE`, but it prints how many lines it has in place of the lines. So a play of many sessions can be among the
+//! commands, though its places differ from run to run.
 #![tactic(auto)]
 
 use disk_trait::LogDisk;
@@ -13,7 +15,7 @@ use std::process::ExitCode;
 use std::sync::Wait;
 use std::thread::Threads;
 
-// How many bytes the lines may have that are counted.
+// How many bytes the counted lines may have.
 const ROOM: usize = 65_536;
 
 fn main(rt: HostRuntime) -> ExitCode {
@@ -46,7 +48,7 @@ fn main(rt: HostRuntime) -> ExitCode {
     status
 }
 
-// Runs a command over the bytes of a file.
+// Runs a command on the bytes of a file.
 fn read_from<R: Threads + Wait + Sync + AllocGlobal + Files + Print, D: LogDisk + Send>(
     rt: &R,
     file: &str,
@@ -62,7 +64,7 @@ fn read_from<R: Threads + Wait + Sync + AllocGlobal + Files + Print, D: LogDisk 
     run_over(rt, words, &mut source, &mut sink, disk, other)
 }
 
-// The same, and tells how many lines it puts.
+// The same, but prints how many lines the command wrote in place of the lines.
 fn count<R: Threads + Wait + Sync + AllocGlobal + Files + Print, D: LogDisk + Send>(
     rt: &R,
     file: &str,

@@ -10,7 +10,8 @@ use Rattle.recovery.specs.Faults.{IsInBytes}
 use Rattle.recovery.specs.Found.{IsFree}
 use Rattle.recovery.specs.Reading.{OnlyReads}
 use Rattle.recovery.specs.Walks.{IsOfHead}
-use Rattle.recovery.specs.Widths.{IsWidth, HasWidth, IsLogFault}
+use Rattle.zorder.specs.Width.{IsWidth}
+use Rattle.recovery.specs.Widths.{HasWidth, IsLogFault}
 use Rattle.recovery.proofs.OnlyReading.{stays-trans}
 use Rattle.recovery.proofs.WidthLemmas.{recovers_width}
 use Rattle.run_ends.specs.declared.refusals.Refusal.{Refusal}

@@ -1,9 +1,9 @@
-//! What follows from types alone.
+//! Facts that follow from types alone.
 ghost use Rattle.zorder.specs.Key.{IsPoint};
 
 use crate::points::Point;
 
-/// Both coordinates of a point are of 32 bits.
+/// Shows that both coordinates of a point have 32 bits. The function does nothing at run time.
 pub fn coordinates_fit(at: Point)
     ensures { IsPoint at }
 {

@@ -1,4 +1,4 @@
-//! Buckets that stay where they are as they would be made.
+//! Buckets that are returned as they are if a new one would have the same content.
 ghost use Rattle.std.specs.Prelude.{◌≡◌, IfOk};
 ghost use Rattle.std.specs.Arc.{arc_value};
 ghost use Rattle.bucket_versions.specs.Rows.{as_base, rows_between};
@@ -7,7 +7,7 @@ use super::Bucket;
 use std::sync::Arc;
 use zorder::Memory;
 
-/// The bucket with its rows as base. Where they are that, it is this one, and no row is copied.
+/// Returns the bucket with its rows as base. If they are that already, it returns the same pointer and copies no row.
 pub fn folded(bucket: &Arc<Bucket>) -> Result<Arc<Bucket>, Memory>
     ensures { IfOk result (λ b. arc_value b ≡ as_base (arc_value bucket.now).rows) }
 {
@@ -17,8 +17,8 @@ pub fn folded(bucket: &Arc<Bucket>) -> Result<Arc<Bucket>, Memory>
     bucket.with_own_base()?.into_shared()
 }
 
-/// A bucket that was cut out of the base of another one, with the rows that this one has now. Where none of these came or
-/// went since, it is the same one, and no row is copied.
+/// Brings a bucket that was cut out of the base of `from` up to date with the rows of `from`. If no row between `lo`
+/// and `hi` was added or removed since, it returns the same pointer and copies no row.
 pub fn caught_up(cut: &Arc<Bucket>, from: &Bucket, lo: u64, hi: u64) -> Result<Arc<Bucket>, Memory>
     requires { (arc_value cut.now).rows ≡ rows_between lo hi from.now.base }
     ensures { IfOk result (λ b. arc_value b ≡ as_base (rows_between lo hi from.now.rows)) }

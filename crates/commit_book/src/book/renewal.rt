@@ -1,4 +1,4 @@
-//! A book that goes on with an empty history, and how much room there is in one that has some.
+//! Renews a book's history, and says how much room is left.
 ghost use Rattle.std.specs.Prelude.{◌≡◌, IfOk, IfErr};
 ghost use Rattle.std.specs.Result.{result_err};
 ghost use Rattle.commit_book.specs.IsBook.{IsBook};
@@ -16,21 +16,22 @@ use split_log::MOST_CELLS;
 use std::alloc::Global;
 use std::mem::replace;
 
-/// The most splits that were begun before a history: those of one more have numbers of 64 bits.
+/// The most splits that may have begun before a history. Then all numbers in the next history fit in 64 bits.
 const MOST_BEGUN: u64 = 1 << 62;
 
-/// How much room is left.
+/// How much room a book has left.
 #[derive(Clone, Copy, Debug, PartialEq, Eq)]
 pub struct Room {
     /// How many more entries the history takes.
     pub entries: u64,
-    /// How many more records the log takes, where there is one.
+    /// How many more records the log takes, or `None` without a log.
     pub records: Option<u64>,
 }
 
 impl<I: Index, D: LogDisk> Book<I, D> {
-    /// Begins an empty history where this one ends, and hands that out. The objects, the leaves and the log stay where they are, and no
-    /// device call is made. A split that is still open is given up, as where a log is opened, and what was prepared for it is stale.
+    /// Begins an empty history where the present one ends, and returns the present one. The objects, the leaves and the
+    /// log are not copied, and the device is not called. A split that is still open is given up, as at the opening of a
+    /// log, and its `Prepared` becomes stale.
     pub fn renew(&mut self, alloc: Global) -> Result<Entries, RenewFault>
         ensures renewed { IfOk result (λ entries. (entries ≡ self.old.entries) × (self.new ≡ renewed I.WIDTH self.old)) }
         ensures refused { result_err result ≡ renew_refusal I.WIDTH self.old }
@@ -61,7 +62,7 @@ impl<I: Index, D: LogDisk> Book<I, D> {
         Ok(())
     }
 
-    /// How many more entries and records there may be. For splits there is less: see `is_near_end`.
+    /// How many more entries and records fit. Splits stop earlier: see `is_near_end`.
     pub fn room(&self) -> Room
         ensures room { result ≡ room_of self.now }
         ensures book { IsBook D.drive I.WIDTH self.now }

@@ -1,4 +1,4 @@
-//! A book that goes on over another log, and what is written there before.
+//! Continues a book on another log, and prepares what is written there before.
 ghost use Rattle.std.specs.Prelude.{◌≡◌, IfOk};
 ghost use Rattle.index_layer.specs.Leaves.{names_of};
 ghost use Rattle.plain_list.specs.History.{world_after};
@@ -20,31 +20,32 @@ use split_log::SplitLog;
 use std::alloc::Global;
 use zorder::Memory;
 
-/// The objects and the names of the leaves as they are.
+/// Copies of the objects and of the names of the leaves.
 #[derive(Drop)]
 pub struct Content {
     pub world: World,
     pub leaves: Leaves,
 }
 
-/// The objects, an index over them with the leaves that the bucket size asks of them, and the names of these.
+/// Copies of the objects, an index over them with the leaves that the bucket size requires, and the names of these
+/// leaves.
 #[derive(Drop)]
 pub struct Anew<I: Index> {
     pub index: I,
     pub content: Content,
 }
 
-/// A book that goes on over another log, with what it has of the one so far.
+/// A book that continues on another log, and what it kept of the log before.
 pub struct Replaced<I: Index, D: LogDisk> {
     pub book: Book<I, D>,
-    /// The history so far.
+    /// The history up to the rotation.
     pub entries: Entries,
-    /// The log so far, where there was one.
+    /// The log up to the rotation, if there was one.
     pub log: Option<SplitLog<D>>,
 }
 
 impl<I: Index, D: LogDisk> Book<I, D> {
-    /// Copies the objects and the names of the leaves. Splits that are open aren't part of it.
+    /// Copies the objects and the names of the leaves. Open splits are not part of the copy.
     pub fn content(&self) -> Result<Content, Memory>
         ensures world { IfOk result (λ c. c.world ≡ world_after self.now.opening.world self.now.entries) }
         ensures leaves { IfOk result (λ c. c.leaves ≡ (state_after I.WIDTH self.now.opening self.now.entries).leaves) }
@@ -58,8 +59,8 @@ impl<I: Index, D: LogDisk> Book<I, D> {
         Ok(Content { world, leaves })
     }
 
-    /// Copies the objects, and makes an index over them with the leaves that the bucket size asks of them, and no more. The book's own index
-    /// stays as it is.
+    /// Copies the objects, and builds an index over them with the leaves that the bucket size requires and no more. The
+    /// book's own index is unchanged.
     pub fn anew(&self, alloc: Global) -> Result<Anew<I>, Memory>
         ensures world { IfOk result (λ a. a.content.world ≡ world_after self.now.opening.world self.now.entries) }
         ensures leaves { IfOk result (λ a. a.content.leaves ≡ names_of (I.leaves a.index)) }
@@ -78,9 +79,9 @@ impl<I: Index, D: LogDisk> Book<I, D> {
         })
     }
 
-    /// Goes on over another log, where the objects and the leaves stand as they are here. The objects and the leaves stay where they are, no
-    /// memory is taken, and no device call is made. A split that is still open is given up, as where a log is opened, and the next one has
-    /// the number behind those that were begun in the other log.
+    /// Continues on another log, which must have the book's objects and leaves. The objects and the leaves are not
+    /// copied, no memory is taken, and the device is not called. A split that is still open is given up, as at the
+    /// opening of a log. The next split's number follows those of the other log.
     pub fn rotate(self, alloc: Global, opened: Opened<D>) -> Replaced<I, D>
         requires opened { IsOpenedLog D.drive I.WIDTH opened.seen opened.start.value opened.log }
         requires content { HasContent I.WIDTH self opened.seen }
@@ -101,7 +102,7 @@ impl<I: Index, D: LogDisk> Book<I, D> {
         }
     }
 
-    /// The same with leaves anew: another index over the objects, as `anew` makes it, takes the place of the one so far.
+    /// The same with fresh leaves: the index that `anew` built replaces the present one.
     pub fn rotate_anew(self, alloc: Global, index: I, opened: Opened<D>) -> Replaced<I, D>
         requires opened { IsOpenedLog D.drive I.WIDTH opened.seen opened.start.value opened.log }
         requires content { HasContentAnew I.WIDTH self (I.leaves index) opened.seen }

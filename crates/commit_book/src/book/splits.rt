@@ -20,14 +20,15 @@ use plain_list::{Entry, Lost};
 use split_prepare::{Prepared, SplitTicket};
 use zorder::Name;
 
-/// Past so many records of a log no split begins.
+/// If the log has more records than this, no split begins.
 pub const MOST_CELLS_TO_BEGIN: u64 = 16_000_000;
 
-/// Nor past so many entries of a history.
+/// If the history has more entries than this, no split begins.
 pub const MOST_EVENTS_TO_BEGIN: u64 = 4_000_000;
 
 impl<I: Index, D: LogDisk> Book<I, D> {
-    /// Begins a split: the leaf's rows become its base, and stay that until the split ends. The entry that ends it has its memory.
+    /// Begins a split. The leaf's rows become its base, which stays unchanged until the split ends. The memory for the
+    /// entry that ends the split is taken here.
     pub fn begin(&mut self, name: &Name) -> Result<SplitTicket, BookFault>
         ensures ok { IfOk result (λ t. Begins I.WIDTH self.old self.new name.now t) }
         ensures ticket { IfOk result (λ t. CanPrepare I.WIDTH t) }
@@ -39,7 +40,7 @@ impl<I: Index, D: LogDisk> Book<I, D> {
         self.keep();
         self.check_begin(name)?;
         self.splits.reserve()?;
-        // One entry more than this one: that which ends the split.
+        // One more entry than the begin: the one that ends the split.
         self.history.reserve(self.splits.len() + 2)?;
         let number = self.splits.next_number();
         let name = *name;
@@ -87,7 +88,8 @@ impl<I: Index, D: LogDisk> Book<I, D> {
         Ok(())
     }
 
-    /// Whether there are so many cells or events that no split begins any more. What else there is room for, `room` tells.
+    /// Whether the log has too many records, or the history too many entries, for another split. `room` returns what
+    /// else fits.
     pub fn is_near_end(&self) -> bool
         ensures { result ≡ has_no_room (cells_in self.now.log) (length self.now.entries) }
     {
@@ -109,7 +111,8 @@ impl<I: Index, D: LogDisk> Book<I, D> {
         }
     }
 
-    /// Puts the children of a split leaf in its place, each with the rows that it was cut and what came and went since.
+    /// Puts the children of a leaf in its place. Each has the rows that were cut for it, with all changes since the
+    /// begin.
     pub fn install(&mut self, prepared: &Prepared) -> Result<(), BookFault>
         requires { prepared.now.width ≡ I.WIDTH }
         ensures ok { OnOk result (Installs I.WIDTH self.old self.new prepared.now.number prepared.now.name) }
@@ -132,7 +135,7 @@ impl<I: Index, D: LogDisk> Book<I, D> {
             self.keep();
             return Err(fault_of(undone, cell));
         }
-        // The table tells that its leaves are in order.
+        // Calling `len` makes it known that the table's leaves are in order.
         let _told = self.table.len();
         self.splits.remove(number);
         self.keep();
@@ -152,7 +155,7 @@ impl<I: Index, D: LogDisk> Book<I, D> {
         }
     }
 
-    // Whether a split may end: the book isn't closed, and has room for an entry and a cell.
+    // Refuses the end of a split if the book is closed, or has no room for an entry and a record.
     fn check_end(&self) -> Result<(), BookFault>
         ensures { IsRefusedBy IsNoFault (end_refusal (cells_in self.now.log) self.now.entries) result }
     {
@@ -163,7 +166,8 @@ impl<I: Index, D: LogDisk> Book<I, D> {
         Ok(())
     }
 
-    // Whether the base of a name's leaf is what was cut. All rows are compared: a value may come from anywhere.
+    // Whether the base of a name's leaf is what was cut. All rows are compared, because a `Prepared` may come from
+    // anywhere.
     fn has_base(&self, name: &Name, prepared: &Prepared) -> bool
         ensures { result ≡ has_base self.now.leaves name.now prepared.now.base }
     {
@@ -173,7 +177,7 @@ impl<I: Index, D: LogDisk> Book<I, D> {
         }
     }
 
-    /// Ends a split, and leaves the index as it is. It takes no memory.
+    /// Ends a split and leaves the index unchanged. It takes no memory.
     pub fn abandon(&mut self, number: u64) -> Result<(), BookFault>
         ensures ok { OnOk result (Abandons self.old self.new number) }
         ensures refused { IsRefusedBy IsDisk (abandon_refusal I.WIDTH self.old number) result }

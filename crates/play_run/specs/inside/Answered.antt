@@ -1,4 +1,4 @@
--- What lanes kept for the rows of their sessions, and books whose rows were played.
+-- What lanes kept for the rows of their sessions, and books on which rows were played.
 use Rattle.std.specs.Prelude.{◌≡◌, ◌⊎◌, ℕ, ◌<◌, length, get_or, ◌==◌, Bool, List, [], ◌∷◌, map, if◌then◌else◌, Option, Some, None}
 use Rattle.plain_list.specs.declared.ops.Op.{Op}
 use Rattle.plain_list.specs.declared.entries.Entry.{Entry}
@@ -25,22 +25,22 @@ use Rattle.run_ends.specs.Taking.{Refuses}
 use Rattle.run_ends.specs.Ending.{EndsWriting}
 use Rattle.play_run.specs.declared.lanes.LaneEnd.{LaneEnd}
 
--- what the first lane of a session kept
+-- what the first lane of this session kept
 abbrev pub kept_of : ℕ → List LaneEnd → List KeptRow
 kept_of s [] = []
 kept_of s (end ∷ ends) = if end.session == s then end.kept.items else kept_of s ends
 
--- what the lanes of the sessions below this number kept stands at the places of their numbers
+-- at each index below n is what the lane of the session with that number kept
 pub record HasLanes {V : Type 0} (kept : V → List KeptRow) (ends : List LaneEnd) (n : ℕ) (lanes : List V) : Type 0 where
   pub size : length lanes ≡ 17
   pub each : (s : ℕ) (d : V) → s < n → kept (get_or lanes s d) ≡ kept_of s ends
 
--- rows that were kept have the numbers of a session's rows, and their places and answers are those of the history
+-- the kept rows have the numbers of a session's rows, and the places and answers of the history
 pub record AreAnswers (world : World) (h : List Entry) (rows : List (ℕ × Op)) (kept : List KeptRow) : Type 0 where
   pub numbers : map (λ (k : KeptRow). k.row) kept ≡ map (λ (r : ℕ × Op). r.0) rows
   pub right : AreRight world h kept
 
--- the lane of each session that has rows kept as many, with their numbers
+-- the lane of each session kept exactly the rows of its session, by their numbers
 abbrev pub HasNumbers : List InRow → List LaneEnd → Type 0
 HasNumbers rows ends = (s : ℕ) → map (λ (k : KeptRow). k.row) (kept_of s ends) ≡ map (λ (r : ℕ × Op). r.0) (session_rows rows s)
 
@@ -48,7 +48,7 @@ HasNumbers rows ends = (s : ℕ) → map (λ (k : KeptRow). k.row) (kept_of s en
 abbrev pub HasAnswers : World → List Entry → List InRow → List LaneEnd → Type 0
 HasAnswers world h rows ends = (s : ℕ) → AreAnswers world h (session_rows rows s) (kept_of s ends)
 
--- rows were played over a store of this origin
+-- rows were played on a store of this origin
 pub record ArePlayed (w : ℕ) (origin : Origin) (rows : List InRow) (h : List Entry) : Type 0 where
   pub played : IsPlayed (session_rows rows) h
   pub loses : (cell : ℕ) → failed_cell h ≡ Some cell → LosesStep (IsNextStep w (start_of origin) rows) h cell
@@ -60,7 +60,7 @@ pub record AreAnswered (w : ℕ) (origin : Origin) (rows : List InRow) (h : List
   pub answers : HasAnswers origin.world h rows ends
   pub settled : failed_cell h ≡ None → SplitsAreDone w origin.bucket (start_of origin) (first_cells origin) h
 
--- rows were played over a book
+-- rows were played on a book
 pub record IsPlayedBook {D : Type 0} (w : ℕ) (rows : List InRow) (old new : BookView D) : Type 0 where
   pub opening : new.opening ≡ old.opening
   pub first : first_in new.log ≡ first_in old.log
@@ -74,19 +74,20 @@ pub record IsAnsweredBook {D : Type 0} (w : ℕ) (rows : List InRow) (old new : 
   pub answers : HasAnswers old.opening.world new.entries rows ends
   pub settled : failed_cell new.entries ≡ None → SplitsAreDone w old.bucket old.opening (first_in old.log) new.entries
 
--- leaves stand for these objects
+-- the leaves stand for these objects
 pub record HasObjects (leaves : List Leaf) (world : World) : Type 0 where
   pub is_world : IsWorld world
   pub names : List (List Bool)
   pub stands : Stands leaves (places_of world) names
 
--- the text is that of a history that gives the ends their answers, and for whose objects at the end the leaves stand
+-- The text was written from a history that gives the kept rows their answers. The leaves stand for its objects at the
+-- end.
 pub record WritesText (report : Report) (rows : List InRow) (leaves : List Leaf) (ends : Option (List LaneEnd)) (status : ℕ) (old new : Output) : Type 0 where
   pub some : List LaneEnd
   pub ends_are : ends ≡ Some some
   pub writes : (world : World) (h : List Entry) → HasAnswers world h rows some → HasObjects leaves (world_after world h) → EndsWriting (text_of report rows world h) status old new
 
--- how rows end that were played: an append failed, memory ran out, or the text is written
+-- how played rows end: an append failed, memory ran out, or the text was written
 abbrev pub EndsPlay : Report → List InRow → Option ℕ → List Leaf → Option (List LaneEnd) → ℕ → Output → Output → Type 0
 EndsPlay report rows failed leaves ends status old new =
     ((cell : ℕ) × (failed ≡ Some cell) × Refuses (refusal.Disk (Some cell)) status old new)

@@ -1,4 +1,4 @@
--- Books over which rows are played, and what they leave.
+-- Books on which rows are played, and what they leave.
 use Rattle.std.specs.Prelude.{◌≡◌, ◌⊎◌, ℕ, ◌≤◌, false, List, [], length, Option, Some, None, ⊤}
 use Rattle.std.specs.Option.{option_map}
 use Rattle.disk_trait.specs.Drive.{Drive, AttachedOne, SameFile, Stays}
@@ -10,7 +10,8 @@ use Rattle.recovery.specs.declared.seen.Seen.{Seen}
 use Rattle.recovery.specs.Faults.{IsInBytes}
 use Rattle.recovery.specs.Found.{IsFound}
 use Rattle.recovery.specs.Opening.{KeepsCells}
-use Rattle.recovery.specs.Widths.{IsWidth, IsLogFault}
+use Rattle.zorder.specs.Width.{IsWidth}
+use Rattle.recovery.specs.Widths.{IsLogFault}
 use Rattle.kept_log.specs.Kept.{IsOpened, found_state}
 use Rattle.kept_log.specs.KeptView.{KeptView}
 use Rattle.kept_log.specs.Journal.{cells_in, disk_in, KeepsIn}
@@ -25,23 +26,23 @@ use Rattle.plain_list.specs.History.{failed_cell}
 use Rattle.lane_history.specs.LostSteps.{LosesStep}
 use Rattle.play_run.specs.Origin.{Origin, IsFoundOrigin}
 
--- why rows over a book stop: memory ran out, or the append of a cell failed
+-- why rows on a book stop: memory ran out, or the append of a record failed
 abbrev pub StopsBook : (List Entry → Lost → Type 0) → List Entry → Refusal → Type 0
 StopsBook Step h why = ((why ≡ refusal.Memory) × (failed_cell h ≡ None)) ⊎ ((cell : ℕ) × (why ≡ refusal.Disk (Some cell)) × LosesStep Step h cell)
 
--- a book without entries, where there is room for rows, over a world
+-- a book of a world, without entries, that has room for rows
 pub record IsNewBook {D : Type 0} (b : BookView D) : Type 0 where
   pub entries : b.entries ≡ []
   pub few : cells_in b.log ≤ most_played
   pub world : IsWorld b.opening.world
 
--- a drive over which a log was opened is like this one: its bytes, images, clock, count and file
+-- the bytes, images, clock, fault count and file are those of the drive on which a log was opened
 pub record IsLike (old new : Drive) : Type 0 where
   pub stays : Stays old new
   pub calm : new.faults ≡ old.faults
   pub file : SameFile old new
 
--- what is known of the opening of a log, or where there is none, who knows that of another
+-- whether a book has no log
 abbrev pub is_unlogged : {D : Type 0} → Option (KeptView D) → Type 0
 is_unlogged None = ⊤
 is_unlogged (Some log) = ⊥
@@ -50,7 +51,7 @@ abbrev pub is_opened : {D : Type 0} → (D → Drive) → Option (KeptView D) �
 is_opened drive None start = ⊥
 is_opened drive (Some log) start = IsLike (drive log.start) start
 
--- neither has a log, or the drives over which they were opened are alike
+-- neither book has a log, or the log of the new one was opened on a drive like that of the old one
 abbrev pub BeginsAs : {D : Type 0} → (D → Drive) → Option (KeptView D) → Option (KeptView D) → Type 0
 BeginsAs drive old new = StartsAs drive (is_unlogged old) (is_opened drive old) new
 
@@ -62,7 +63,7 @@ pub record LeavesLog {D : Type 0} (drive : D → Drive) (w : ℕ) (s : State) (h
   pub keeps : KeepsIn drive w s h log
   pub disk_is : disk ≡ disk_in log
 
--- a log of this width that stood on a drive was opened as it was after the attach, and what was found in it; its bytes show no fault
+-- the log of this width was opened as it was after the attach, with what was found in it, and its bytes have no fault
 pub record OpensFile (file : List ℕ) (old start now : Drive) (w : ℕ) (seen : Seen) : Type 0 where
   pub known : IsWidth w
   pub found : IsFound oldest_played w most_played start seen
@@ -73,7 +74,7 @@ pub record OpensFile (file : List ℕ) (old start now : Drive) (w : ℕ) (seen :
   pub keeps : KeepsCells w old now
   pub shows : (bytes : List ℕ) (fault : OpenFault) → old.bytes ≡ Some bytes → IsInBytes fault → IsLogFault oldest_played most_played bytes fault → ⊥
 
--- a book of this width over the log that stood on a drive, whose bytes show no fault
+-- a book of this width on the log that stood on a drive, whose bytes have no fault
 pub record OpensBook {D : Type 0} (drive : D → Drive) (file : List ℕ) (old : Drive) (w size : ℕ) (b : BookView D) : Type 0 where
   pub bucket : b.bucket ≡ size
   pub log : KeptView D

@@ -1,4 +1,4 @@
--- How rows end that were played over a book.
+-- How rows end that were played on a book.
 use Rattle.std.specs.Prelude.{ℕ, List, Option}
 use Rattle.disk_trait.specs.Drive.{Drive}
 use Rattle.plain_list.specs.declared.entries.Entry.{Entry}
@@ -14,7 +14,8 @@ use Rattle.play_run.specs.Answers.{AnswersAsOneList}
 use Rattle.play_run.specs.Playing.{EndsRows}
 use Rattle.play_run.specs.inside.Books.{StopsBook, LeavesLog}
 
--- the history that rows leave over a book of this width, the text or the refusal that tells of it, and the drive of the log where there is one
+-- the history that rows leave on a book of this width, the text or the refusal for it, and the drive of the log, if
+-- there is one
 pub record EndsBook {D : Type 0} (drive : D → Drive) (w : ℕ) (report : Report) (rows : List InRow) (b : BookView D) (h : List Entry) (status : ℕ) (disk : Option D) (old new : Output) : Type 0 where
   pub one_list : AnswersAsOneList report w b.opening rows h status old new
   pub ends : EndsRows (StopsBook (IsNextStep w b.opening rows) h) status old new

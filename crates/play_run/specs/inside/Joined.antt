@@ -1,4 +1,4 @@
--- Lanes whose passes were joined, and what they leave.
+-- Lanes whose passes were joined, and what the lanes leave.
 use Rattle.std.specs.Prelude.{◌≡◌, ℕ, ◌+◌, Bool, true, false, List, [], ◌∷◌, ◌++◌, length, ⊤, Ok}
 use Rattle.csv_rows.specs.declared.rows.InRow.{InRow}
 use Rattle.atomic_table.specs.Seated.{TableId}
@@ -12,7 +12,7 @@ use Rattle.lane_history.specs.Lanes.{HaveAllPlayed, TakesIn, GoesOn, AreCalmLane
 use Rattle.play_run.specs.declared.lanes.LaneEnd.{LaneEnd}
 use Rattle.play_run.specs.inside.Dealt.{sessions_to}
 
--- each lane has a pass of this lock, of one part
+-- the lane has a pass of this lock, with one part
 pub record IsIdle {I D O P : Type 0} (lock : TableId) (lane : Lane I D O P) : Type 0 where
   pub lock_is : lane.pass.lock ≡ lock
   pub off : lane.pass.holds ≡ false
@@ -22,7 +22,7 @@ abbrev pub AreIdle : {I D O P : Type 0} → TableId → List (Lane I D O P) → 
 AreIdle lock [] = ⊤
 AreIdle lock (lane ∷ lanes) = IsIdle lock lane × AreIdle lock lanes
 
--- what lanes leave, the last lane first
+-- what the lanes leave, the last lane first
 abbrev pub end_of : {I D O P : Type 0} → Lane I D O P → LaneEnd
 end_of lane = record { session = lane.session; kept = lane.kept }
 
@@ -37,12 +37,12 @@ pub record Takes {I D O P : Type 0} (old new : Known) (lanes : List (Lane I D O 
   pub off : new.holds ≡ false
   pub parts : new.parts ≡ old.parts + length lanes
 
--- whether no lane met a fault and the splits at the end were settled
+-- if true, no lane had a fault and the splits at the end were settled; false says nothing
 abbrev pub IsDone : {I D O P : Type 0} → ℕ → List (Lane I D O P) → Known → Known → Bool → Type 0
 IsDone w lanes pass last true = AreCalmLanes lanes × ((settled : Settled) × (pass.parts ≡ 65536) × Settles w pass last (Ok settled))
 IsDone w lanes pass last false = ⊤
 
--- lanes of all sessions ran, their passes were joined, and the splits at the end maybe settled
+-- lanes of all sessions ran, their passes were joined, and the splits at the end may have been settled
 pub record HasRun (I D O P : Type 0) (w : ℕ) (origin : Origin) (rows : List InRow) (ends : List LaneEnd) (last : Known) (done : Bool) : Type 0 where
   pub lanes : List (Lane I D O P)
   pub played : HaveAllPlayed w origin rows (sessions_to 16 rows) lanes

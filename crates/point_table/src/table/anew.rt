@@ -1,4 +1,4 @@
-//! An index over the objects of a table, with the leaves that its size asks of them.
+//! A fresh index over the objects of a table, with the leaves that its bucket size requires.
 ghost use Rattle.std.specs.Prelude.{◌≡◌, IfOk, OnOk};
 ghost use Rattle.bucket_versions.specs.declared.row.Row.{Row};
 ghost use Rattle.bucket_versions.specs.Rows.{IsRows, has_row};
@@ -22,7 +22,8 @@ use table_share::{LeafWalk, scan};
 use zorder::{Memory, Name};
 
 impl<I: Index> PointTable<I> {
-    /// An index over the same objects, with the leaves that the size asks of them, and no more. It shares nothing with the one that there is.
+    /// Builds an index over the same objects, with the leaves that the size requires and no more. It shares no memory
+    /// with the present index.
     pub fn index_anew(&self) -> Result<I, Memory>
         ensures { IfOk result (λ index. StandsBySize I.WIDTH self.now.size self.now.world (I.leaves index)) }
     {
@@ -34,7 +35,7 @@ impl<I: Index> PointTable<I> {
         Ok(index)
     }
 
-    // The rows of all leaves, with a count that nobody asks for.
+    // The rows of all leaves, in key order. The count of opened leaves is dropped.
     fn rows<L: Ledger>(&self, blank: Blank) -> Result<Vec<Row>, Memory>
         requires name { blank.name ≡ L.name }
         requires parts { blank.parts ≡ L.parts }
@@ -46,7 +47,7 @@ impl<I: Index> PointTable<I> {
         scan(self.alloc, &self.index, 0, u64::MAX, &mut steps)
     }
 
-    /// Goes on with such an index in place of the one so far.
+    /// Puts an index from `index_anew` in place of the present one.
     pub fn take_index(&mut self, index: I)
         requires { StandsBySize I.WIDTH self.old.size self.old.world (I.leaves index) }
         ensures { self.new ≡ record self.old { leaves = I.leaves index } }
@@ -56,8 +57,8 @@ impl<I: Index> PointTable<I> {
     }
 }
 
-// Splits the leaf of this name and its children on, while they have more rows than the size. Each gets the rows under its name out of a
-// bucket of all rows.
+// Splits the leaf of this name, and then its children in the same way, while they have more rows than the size. Each
+// child gets the rows under its name, taken from a bucket of all rows.
 fn split_on<I: Index>(
     alloc: Global,
     index: &mut I,
@@ -82,7 +83,7 @@ fn split_on<I: Index>(
     Ok(())
 }
 
-/// The names of an index's leaves.
+/// The names of an index's leaves, in key order.
 pub fn leaf_names<I: Index>(alloc: Global, index: &I) -> Result<Vec<Name>, Memory>
     ensures { IfOk result (λ names. names.items ≡ names_of (I.leaves index.now)) }
 {

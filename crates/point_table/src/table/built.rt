@@ -1,4 +1,4 @@
-//! A table that begins at a world that is there.
+//! A table of a given world.
 ghost use Rattle.std.specs.Prelude.{◌≡◌, IfOk};
 ghost use Rattle.index_layer.specs.Leaves.{names_of};
 ghost use Rattle.index_build.specs.Grown.{IsGrown};
@@ -14,7 +14,7 @@ use table_share::LeafWalk;
 use zorder::{Memory, Name};
 
 impl<I: Index> PointTable<I> {
-    /// A table of the objects of a world, whose leaves have these names, in key order.
+    /// Builds a table of the objects of a world. Its leaves have these names, in key order.
     pub fn built(
         alloc: Global,
         world: &World,
@@ -38,7 +38,7 @@ impl<I: Index> PointTable<I> {
     }
 }
 
-// The names of an index's leaves that are to be split, in order.
+// The names of the leaves that are to be split, in key order.
 fn crowded_names<I: Index>(alloc: Global, index: &I, size: u32) -> Result<Vec<Name>, AllocError>
     ensures { IfOk result (λ names. names.items ≡ crowded_of I.WIDTH size (I.leaves index.now)) }
 {

@@ -1,6 +1,7 @@
-//! A leaf that is folded, and one that gives way to its children.
+//! The two steps of a split on a table: a leaf is folded, and later replaced by its children.
 ghost use Rattle.std.specs.Prelude.{◌≡◌, ◌⊎◌, ◌+◌, ◌≤◌, ◌^◌, true, IfOk, OnOk, OnErr, length, map};
 ghost use Rattle.std.specs.Arc.{arc_value};
+ghost use Rattle.zorder.specs.Width.{IsWidth};
 ghost use Rattle.bucket_versions.specs.Told.{Told};
 ghost use Rattle.index_layer.specs.Leaves.{has_name};
 ghost use Rattle.split_prepare.specs.Cut.{cut, cut_out};
@@ -17,7 +18,7 @@ use std::sync::Arc;
 use zorder::{Memory, Name};
 
 impl<I: Index> PointTable<I> {
-    /// Makes a leaf's rows its base, once the step has succeeded, and hands out its bucket.
+    /// Makes a leaf's rows its base after the step succeeded, and returns the leaf's bucket.
     pub fn fold<C: Commit>(&mut self, name: &Name, commit: &mut C) -> Result<Arc<Bucket>, Undone>
         requires can { C.can commit.old }
         requires leaf { has_name name.now self.old.leaves ≡ true }
@@ -31,12 +32,13 @@ impl<I: Index> PointTable<I> {
         };
         let folded = folded(bucket)?;
         let shared = Arc::try_clone(&folded)?;
-        // All memory but the index's own is taken: the step is the last thing that can fail.
+        // Only the index has memory left to take, so the step is the last thing that can fail.
         self.index.replace(name, shared, commit)?;
         Ok(folded)
     }
 
-    /// Puts a leaf's children in its place, once the step has succeeded. They were cut out of its base, and get its rows as they are now.
+    /// Puts a leaf's children in its place after the step succeeded. They were cut out of its base, and get the rows
+    /// that the leaf has now.
     pub fn divide<C: Commit>(
         &mut self,
         name: &Name,
@@ -56,14 +58,14 @@ impl<I: Index> PointTable<I> {
         let children = caught_up(self.alloc, name, I::WIDTH, bucket, parts)?;
         let marks = marks_of(self.alloc, self.size, name, I::WIDTH, &children)?;
         self.crowded.reserve(marks.len())?;
-        // All memory but the index's own is taken: the step is the last thing that can fail.
+        // Only the index has memory left to take, so the step is the last thing that can fail.
         self.index.divide(name, &children, commit)?;
         self.crowded.set_each(marks);
         Ok(())
     }
 }
 
-// A leaf's children, cut out of the base of its bucket, each with the rows that are under its name now.
+// The children of a leaf, cut out of the base of its bucket. Each is brought up to date with the leaf's present rows.
 fn caught_up(
     alloc: Global,
     name: &Name,
@@ -71,7 +73,7 @@ fn caught_up(
     from: &Bucket,
     parts: &[Arc<Bucket>],
 ) -> Result<Vec<Arc<Bucket>>, Memory>
-    requires width { (width ≡ 1) ⊎ (width ≡ 2) }
+    requires width { IsWidth width }
     requires short { length name.now + width ≤ 64 }
     requires cut { map arc_value parts.now ≡ cut width name.now from.now.base }
     ensures { IfOk result (λ v. map arc_value v.items ≡ cut width name.now from.now.rows) }
@@ -84,7 +86,7 @@ fn caught_up(
     Ok(buckets)
 }
 
-// One of them.
+// One child, brought up to date.
 fn child_now(name: &Name, from: &Bucket, part: &Arc<Bucket>) -> Result<Arc<Bucket>, Memory>
     requires { arc_value part.now ≡ cut_out from.now.base name.now }
     ensures { IfOk result (λ b. arc_value b ≡ cut_out from.now.rows name.now) }
@@ -93,7 +95,7 @@ fn child_now(name: &Name, from: &Bucket, part: &Arc<Bucket>) -> Result<Arc<Bucke
     bucket_versions::caught_up(part, from, lo, hi)
 }
 
-// Which of a leaf's children are to be split.
+// The marks of a leaf's children: which of them are to be split.
 fn marks_of(
     alloc: Global,
     size: u32,
@@ -101,7 +103,7 @@ fn marks_of(
     width: u8,
     buckets: &[Arc<Bucket>],
 ) -> Result<Vec<Mark>, AllocError>
-    requires width { (width ≡ 1) ⊎ (width ≡ 2) }
+    requires width { IsWidth width }
     requires short { length name.now + width ≤ 64 }
     requires count { length buckets.now ≡ 2 ^ width }
     ensures { IfOk result (λ v. v.items ≡ marks_of width size name.now (map arc_value buckets.now)) }

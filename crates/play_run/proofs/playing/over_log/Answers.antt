@@ -1,5 +1,5 @@
 use Rattle.std.proofs.Common.{◌≡◌, ◌≢◌, inl, inr, ℕ, refl, sym, subst, arith}
-use Rattle.recovery.specs.Widths.{IsWidth}
+use Rattle.zorder.specs.Width.{IsWidth}
 use Rattle.play_run.specs.Playing.{IsNotOpened}
 use Rattle.play_run.specs.inside.Books.{OpensFile}
 use Rattle.play_run.proofs.playing.over_log.Goals as goal

@@ -6,7 +6,7 @@ use Rattle.log_compact.specs.Fresh.{inner_names, fresh_cells}
 use Rattle.plain_list.specs.State.{ComesBySplits}
 use Rattle.log_compact.specs.Walk.{all_new_names, AreShort, cells_left}
 use Rattle.log_compact.specs.State.{IsStateOf}
-use Rattle.recovery.specs.Widths.{IsWidth}
+use Rattle.zorder.specs.Width.{IsWidth}
 use Rattle.log_compact.proofs.Inner.{inner_names-walked}
 use Rattle.log_compact.proofs.Counting.{length-fresh_cells}
 use Rattle.log_compact.proofs.FreshState.{fresh_state}

@@ -1,0 +1,100 @@
+-- What an append of many cells makes of each history that a journal keeps.
+use Rattle.std.proofs.Common.{◌≡◌, ℕ, ◌+◌, ◌≤◌, true, false, List, [], ◌∷◌, ◌++◌, length, Option, Some, None, is_some, refl, sym, ◌∙◌, ap, subst, arith}
+use Rattle.std.proofs.lemmas.Bool.{true≢false}
+use Rattle.causes.specs.Causes.{Rose}
+use Rattle.cell_format.specs.declared.cell.Cell.{Cell}
+use Rattle.plain_list.specs.declared.entries.Entry.{Entry}
+use Rattle.plain_list.specs.declared.entries.Entry.TheVariants.{Fail, Call, Begin, Install, Abandon}
+use Rattle.plain_list.specs.History.{failed_cell}
+use Rattle.plain_list.specs.State.{State}
+use Rattle.plain_list.proofs.Histories.{has_failed, has_failed-none, failed_cell-none}
+use Rattle.disk_trait.specs.Drive.{Drive, SameFile}
+use Rattle.disk_trait.specs.Moments.{LeavesOnly}
+use Rattle.split_log.specs.LogText.{IsLog, HoldsAllOrNone}
+use Rattle.split_log.specs.Append.{AddsAll, AllFail, calls_to_add}
+use Rattle.split_log.specs.LogView.{most_cells}
+use Rattle.recovery.specs.Calls.{AllWentWell}
+use Rattle.recovery.proofs.CallLemmas.{well-then}
+use Rattle.kept_log.specs.KeptView.{KeptView}
+use Rattle.kept_log.specs.Kept.{StartsWith}
+use Rattle.kept_log.specs.Steps.{AreNext, IsSince}
+use Rattle.kept_log.specs.Journal.{KeepsIn, AddedAll, AllMissed, LeavesNextAll}
+use Rattle.kept_log.proofs.Batches.{leaves-all, leaves-all-now, leaves-none, keeps-all}
+
+-- a history without a failed append names the cell that what stands behind it names
+failed_behind : (h es : List Entry) → failed_cell h ≡ None → failed_cell (h ++ es) ≡ failed_cell es
+failed_behind [] es none = refl
+failed_behind (Fail number lost ∷ h) es none = absurd (cc none)
+failed_behind (Call session row op ∷ h) es none = failed_behind h es none
+failed_behind (Begin number name ∷ h) es none = failed_behind h es none
+failed_behind (Install number ∷ h) es none = failed_behind h es none
+failed_behind (Abandon number ∷ h) es none = failed_behind h es none
+
+-- where no cell is named, no count need rise
+unnamed : {A : Type 0} (cell : Option ℕ) → cell ≡ None → is_some cell ≡ true → A
+unnamed None none told = absurd (true≢false (sym told))
+unnamed (Some number) none told = absurd (cc none)
+
+-- nor has it a number
+no_number : {A : Type 0} (cell : Option ℕ) (n : ℕ) → cell ≡ None → cell ≡ Some n → A
+no_number cell n none some = absurd (cc (none, some))
+
+-- without a log nothing is added, and nothing need be kept
+pub all-added-none : {D : Type 0} (drive : D → Drive) (more : List Cell) → AddedAll drive more None None
+all-added-none drive more = record {
+  count = omega arith;
+  calls = tt;
+  keeps = λ w s h es next kept. failed_behind h es kept ∙ next.sound;
+}
+
+module _ {D : Type 0} (drive : D → Drive) (more : List Cell) (old new : KeptView D) (whole : old.failed ≡ None) (room : old.cells + length more ≤ most_cells) (opened : IsSince old new)
+    (later : (drive old.disk).faults ≤ (drive new.disk).faults)
+    (any_moment : (w : ℕ) (cells : List Cell) → IsLog w cells (drive old.disk) → LeavesOnly (drive old.disk) (drive new.disk) (HoldsAllOrNone w cells more)) where
+  none_named : (w : ℕ) (s : State) (h : List Entry) → KeepsIn drive w s h (Some old) → failed_cell h ≡ None
+  none_named w s h kept = sym kept.failed ∙ whole
+
+  none_failed : (w : ℕ) (s : State) (h : List Entry) → KeepsIn drive w s h (Some old) → has_failed h ≡ false
+  none_failed w s h kept = has_failed-none h (none_named w s h kept)
+
+  pub leaves-next-all : LeavesNextAll drive more (Some old) (Some new)
+  leaves-next-all w s h es next kept first = leaves-all drive more old new whole opened any_moment w s h es (none_failed w s h kept) next kept.keeps first
+
+  pub added-all : AddsAll more old.cells new.cells new.failed (drive old.disk) (drive new.disk) → AddedAll drive more (Some old) (Some new)
+  added-all adds = record {
+    count = omega (arith, adds.count);
+    calls = adds.calls;
+    keeps = λ w s h es next kept.
+        let unfailed : failed_cell (h ++ es) ≡ None = failed_behind h es (none_named w s h kept) ∙ next.sound in
+        record {
+          keeps = keeps-all drive more old new whole opened any_moment w s h es (none_failed w s h kept) next kept.keeps adds;
+          failed = adds.whole ∙ sym unfailed;
+          named = λ n. no_number (failed_cell (h ++ es)) n unfailed;
+          most = omega (arith, room, adds.count);
+          later = omega (arith, kept.later, later, ap (λ (d : D). (drive d).faults) opened.start);
+          rose = unnamed (failed_cell (h ++ es)) unfailed;
+          calm = λ none. adds.same ∙ kept.calm (none_named w s h kept) ∙ ap (λ (d : D). (drive d).faults) (sym opened.start);
+          well = λ none. subst (λ (d : D). AllWentWell (drive d) (drive new.disk)) (sym opened.start)
+              (well-then (drive old.start) (drive old.disk) (drive new.disk) (kept.well (none_named w s h kept)) (record { count = calls_to_add more; calls = adds.calls }));
+          stopped = unnamed (failed_cell (h ++ es)) unfailed;
+          file = λ all told. ap (λ (d : D). (drive d).attaches) opened.start ∙ kept.file all (adds.file all told);
+          told = adds.told ∙ kept.told ∙ ap (λ (d : D). is_some (drive d).bytes) (sym opened.start);
+          from = λ bytes told. kept.from bytes (sym (ap (λ (d : D). (drive d).bytes) opened.start) ∙ told);
+        };
+  }
+
+  pub all-missed : (number : ℕ) → AllFail more number old.cells new.cells new.failed (drive old.disk) (drive new.disk) → AllMissed drive more number (Some old) (Some new)
+  all-missed number fails = record {
+    named = fails.named;
+    count = fails.count;
+    closed = fails.kept ∙ ap Some (sym fails.named);
+    rose = fails.rose;
+    breaks = record {
+      went_well = fails.broken.went_well;
+      few = fails.broken.stops.few;
+      calls = fails.broken.stops.calls;
+      unstaged = λ early w s h es next kept first starts.
+          leaves-none drive more old new whole opened any_moment w s h es (none_failed w s h kept) next kept.keeps (λ cells log. (fails.broken.leaves w cells log).unstaged early) first starts;
+    };
+    leaves = λ w s h es next kept first starts.
+        leaves-all-now drive more old new whole opened any_moment w s h es (none_failed w s h kept) next kept.keeps (λ cells log. fails.either w cells log) first starts;
+  }

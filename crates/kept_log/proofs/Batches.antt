@@ -1,0 +1,135 @@
+-- What an append of many cells makes of each history that a log keeps.
+use Rattle.std.proofs.Common.{◌≡◌, ◌⊎◌, inl, inr, ⊎_elim, ℕ, ◌≤◌, true, false, List, [], ◌∷◌, ◌++◌, length, Option, Some, None, refl, sym, ◌∙◌, ap, subst, arith, append_assoc, length-append}
+use Rattle.std.proofs.lemmas.List.{append-nil}
+use Rattle.cell_format.specs.declared.cell.Cell.{Cell}
+use Rattle.cell_format.specs.Spelling.{newest}
+use Rattle.plain_list.specs.declared.entries.Entry.{Entry}
+use Rattle.plain_list.specs.State.{State, empty_state, is_legal_history}
+use Rattle.plain_list.proofs.Histories.{has_failed, has_failed-none}
+use Rattle.disk_trait.specs.Drive.{Drive}
+use Rattle.disk_trait.specs.Moments.{LeavesOnly, LeavesNow, LeavesSince}
+use Rattle.split_log.specs.LogText.{IsLog, HoldsCells, HoldsAllOrNone}
+use Rattle.split_log.specs.Append.{AddsAll, AllFail}
+use Rattle.log_state.specs.Recovers.{Recovers, IsLegalCells, is_legal_cells}
+use Rattle.log_state.specs.Changes.{cells_of, failed_cells}
+use Rattle.log_state.specs.Keeps.{RecoversAllOrNone}
+use Rattle.log_state.proofs.Keeping.{either_since, kept_added, recovers}
+use Rattle.log_state.proofs.LegalCells.{legal-front}
+use Rattle.log_state.proofs.LegalBehind.{legal_behind}
+use Rattle.log_state.proofs.PlacedChanges.{cells_of-append, failed_cells-append, failed_cells-none}
+use Rattle.recovery.specs.Found.{IsNewest}
+use Rattle.recovery.proofs.HeadLemmas.{index_version}
+use Rattle.kept_log.specs.KeptView.{KeptView}
+use Rattle.kept_log.specs.Kept.{StartsWith, KeepsSince, Keeps}
+use Rattle.kept_log.specs.Steps.{AreNext, IsSince}
+use Rattle.kept_log.specs.Journal.{RecoversWithAll}
+use Rattle.kept_log.proofs.Starting.{leaves-log}
+
+-- a log's bytes name the newest version, and so does what an append leaves
+newest-all : (w : ℕ) (cells more : List Cell) (c : List ℕ) → HoldsAllOrNone w cells more c → IsNewest c
+newest-all w cells more c (inl alone) = index_version newest w cells c alone
+newest-all w cells more c (inr both) = index_version newest w (cells ++ more) c both
+
+newest-then : (w : ℕ) (cells more : List Cell) (t : ℕ) (d0 d1 : Drive) → t ≤ d0.clock → LeavesOnly d0 d1 (HoldsAllOrNone w cells more) → LeavesSince d0 t IsNewest
+    → LeavesSince d1 t IsNewest
+newest-then w cells more t d0 d1 le any_moment so_far c left = ⊎_elim (so_far c) (newest-all w cells more c) (any_moment.before t c le left)
+
+module _ (w : ℕ) (s : State) (h es : List Entry) (more : List Cell) (sound : has_failed h ≡ false) (next : AreNext w s h es more) where
+  none_lost : failed_cells h ≡ []
+  none_lost = failed_cells-none h sound
+
+  -- the history's cells, and these
+  pub cells_with_all : cells_of s.world (h ++ es) ≡ cells_of s.world h ++ more
+  cells_with_all = cells_of-append s.world h es ∙ ap (λ l. cells_of s.world h ++ l) next.cells
+
+  module _ (first : List Cell) (start d0 d1 : Drive) (legal : IsLegalCells w first) (kept : KeepsSince w first s h start d0 None) where
+    legal_with : IsLegalCells w (first ++ (cells_of s.world h ++ more))
+    legal_with =
+        subst (λ l. IsLegalCells w (first ++ l)) cells_with_all
+        (subst (λ (t : State). IsLegalCells w (first ++ cells_of t.world (h ++ es))) kept.opening
+        (legal_behind w first (h ++ es) legal (subst (λ (t : State). is_legal_history w t (h ++ es) ≡ true) (sym kept.opening) next.legal)))
+
+    pub legal_alone : IsLegalCells w (first ++ cells_of s.world h)
+    legal_alone =
+        legal-front w empty_state (first ++ cells_of s.world h) more
+        (ap (is_legal_cells w empty_state) (append_assoc first (cells_of s.world h) more) ∙ legal_with)
+
+    module _ (any_moment : LeavesOnly d0 d1 (HoldsAllOrNone w (first ++ cells_of s.world h) more)) where
+      pub all-kept : LeavesOnly d0 d1 (RecoversAllOrNone w (first ++ cells_of s.world h) more)
+      all-kept = either_since w first s.world h more start.clock d0 d1 kept.later none_lost legal_with kept.history any_moment
+
+      pub recovers-all : (c : List ℕ) → HoldsAllOrNone w (first ++ cells_of s.world h) more c → RecoversAllOrNone w (first ++ cells_of s.world h) more c
+      recovers-all = recovers w first s.world h more start.clock d0 d1 kept.later none_lost legal_with kept.history any_moment
+
+      pub since-all : IsLog w ((first ++ cells_of s.world h) ++ more) d1 → KeepsSince w first s (h ++ es) start d1 None
+      since-all log = record {
+        opening = kept.opening;
+        later = omega (arith, kept.later, any_moment.later);
+        history = kept_added w first s.world h more start.clock d0 d1 kept.later none_lost legal_with kept.history any_moment (h ++ es)
+            (ap (λ l. cells_of s.world (h ++ es) ++ l) (failed_cells-append h es sound ∙ failed_cells-none es (has_failed-none es next.sound))
+            ∙ append-nil (cells_of s.world (h ++ es)) ∙ cells_with_all)
+            cells_with_all
+            (λ c left. subst (λ l. HoldsCells newest w l c) (append_assoc first (cells_of s.world h) more)
+            (leaves-log w ((first ++ cells_of s.world h) ++ more) d1 log c left))
+            None log;
+        newest = λ here. newest-then w (first ++ cells_of s.world h) more start.clock d0 d1 kept.later any_moment (kept.newest here);
+      }
+
+module _ {D : Type 0} (drive : D → Drive) (more : List Cell) (old new : KeptView D) (whole : old.failed ≡ None) (opened : IsSince old new)
+    (any_moment : (w : ℕ) (cells : List Cell) → IsLog w cells (drive old.disk) → LeavesOnly (drive old.disk) (drive new.disk) (HoldsAllOrNone w cells more)) where
+  module _ (w : ℕ) (s : State) (h : List Entry) (kept : Keeps drive w s h old) (first : List Cell) (starts : StartsWith w first (drive old.start)) where
+    still : KeepsSince w first s h (drive old.start) (drive old.disk) None
+    still = subst (λ failed. KeepsSince w first s h (drive old.start) (drive old.disk) failed) whole (kept.since first starts)
+
+    log_of : IsLog w (first ++ cells_of s.world h) (drive old.disk)
+    log_of = still.history.log refl
+
+    during : LeavesOnly (drive old.disk) (drive new.disk) (HoldsAllOrNone w (first ++ cells_of s.world h) more)
+    during = any_moment w (first ++ cells_of s.world h) log_of
+
+  module _ (w : ℕ) (s : State) (h es : List Entry) (unfailed : has_failed h ≡ false) (next : AreNext w s h es more) (kept : Keeps drive w s h old) where
+    same : (first : List Cell) → (first ++ cells_of s.world h) ++ more ≡ first ++ cells_of s.world (h ++ es)
+    same first = append_assoc first (cells_of s.world h) more ∙ ap (λ l. first ++ l) (sym (cells_with_all w s h es more unfailed next))
+
+    -- at each moment a crash leaves the cells that stood at the start, or these and all of the new ones
+    pub leaves-all : (first : List Cell) → StartsWith w first (drive old.start) → LeavesOnly (drive old.disk) (drive new.disk) (RecoversWithAll w first s.world h es)
+    leaves-all first starts =
+        subst (λ (l : List Cell). LeavesOnly (drive old.disk) (drive new.disk) (λ c. Recovers w (first ++ cells_of s.world h) c ⊎ Recovers w l c)) (same first)
+        (all-kept w s h es more unfailed next first (drive old.start) (drive old.disk) (drive new.disk) starts.recovers.legal
+        (still w s h kept first starts) (during w s h kept first starts))
+
+    -- and so it does now, where it does so of the cells of any log
+    pub leaves-all-now : ((cells : List Cell) → IsLog w cells (drive old.disk) → LeavesNow (drive new.disk) (HoldsAllOrNone w cells more))
+        → (first : List Cell) → StartsWith w first (drive old.start) → LeavesNow (drive new.disk) (RecoversWithAll w first s.world h es)
+    leaves-all-now now first starts c left =
+        subst (λ (l : List Cell). Recovers w (first ++ cells_of s.world h) c ⊎ Recovers w l c) (same first)
+        (recovers-all w s h es more unfailed next first (drive old.start) (drive old.disk) (drive new.disk) starts.recovers.legal
+        (still w s h kept first starts) (during w s h kept first starts) c (now (first ++ cells_of s.world h) (log_of w s h kept first starts) c left))
+
+    -- where the new cells are in no image, it leaves the cells that stood
+    pub leaves-none : ((cells : List Cell) → IsLog w cells (drive old.disk) → LeavesOnly (drive old.disk) (drive new.disk) (HoldsCells newest w cells))
+        → (first : List Cell) → StartsWith w first (drive old.start) → LeavesOnly (drive old.disk) (drive new.disk) (Recovers w (first ++ cells_of s.world h))
+    leaves-none alone first starts =
+        let only = alone (first ++ cells_of s.world h) (log_of w s h kept first starts) in
+        let legal = legal_alone w s h es more unfailed next first (drive old.start) (drive old.disk) (drive new.disk) starts.recovers.legal (still w s h kept first starts) in
+        record {
+          later = only.later;
+          each = λ c left. record { version = newest; known = inr refl; holds = only.each c left; legal = legal };
+          before = λ t c le left. ⊎_elim (λ was. inl was) (λ holds. inr (record { version = newest; known = inr refl; holds = holds; legal = legal })) (only.before t c le left);
+        }
+
+    -- the history with all entries that the cells are of is kept
+    pub keeps-all : AddsAll more old.cells new.cells new.failed (drive old.disk) (drive new.disk) → Keeps drive w s (h ++ es) new
+    keeps-all adds = record {
+      count = omega (arith, adds.count, kept.count, opened.first, ap length (cells_with_all w s h es more unfailed next), length-append (cells_of s.world h) more);
+      since = λ first starts.
+          subst (λ f. KeepsSince w first s (h ++ es) (drive new.start) (drive new.disk) f) (sym adds.whole)
+          (subst (λ (d : D). KeepsSince w first s (h ++ es) (drive d) (drive new.disk) None) (sym opened.start)
+          (let before : StartsWith w first (drive old.start) = subst (λ (d : D). StartsWith w first (drive d)) opened.start starts in
+          since-all w s h es more unfailed next first (drive old.start) (drive old.disk) (drive new.disk) before.recovers.legal
+          (still w s h kept first before) (during w s h kept first before)
+          (adds.log w (first ++ cells_of s.world h) (log_of w s h kept first before))));
+      text = λ first bytes told recovers none.
+          subst (λ (l : List Cell). IsLog w l (drive new.disk)) (same first)
+          (adds.log w (first ++ cells_of s.world h) (kept.text first bytes (sym (ap (λ (d : D). (drive d).bytes) opened.start) ∙ told) recovers whole));
+    }
