@@ -1,14 +1,13 @@
 -- What an append of many cells makes of each history that a journal keeps.
 use Rattle.std.proofs.Common.{◌≡◌, ℕ, ◌+◌, ◌≤◌, true, false, List, [], ◌∷◌, ◌++◌, length, Option, Some, None, is_some, refl, sym, ◌∙◌, ap, subst, arith}
 use Rattle.std.proofs.lemmas.Bool.{true≢false}
-use Rattle.causes.specs.Causes.{Rose}
 use Rattle.cell_format.specs.declared.cell.Cell.{Cell}
 use Rattle.plain_list.specs.declared.entries.Entry.{Entry}
 use Rattle.plain_list.specs.declared.entries.Entry.TheVariants.{Fail, Call, Begin, Install, Abandon}
 use Rattle.plain_list.specs.History.{failed_cell}
 use Rattle.plain_list.specs.State.{State}
-use Rattle.plain_list.proofs.Histories.{has_failed, has_failed-none, failed_cell-none}
-use Rattle.disk_trait.specs.Drive.{Drive, SameFile}
+use Rattle.plain_list.proofs.Histories.{has_failed, has_failed-none}
+use Rattle.disk_trait.specs.Drive.{Drive}
 use Rattle.disk_trait.specs.Moments.{LeavesOnly}
 use Rattle.split_log.specs.LogText.{IsLog, HoldsAllOrNone}
 use Rattle.split_log.specs.Append.{AddsAll, AllFail, calls_to_add}
@@ -16,8 +15,7 @@ use Rattle.split_log.specs.LogView.{most_cells}
 use Rattle.recovery.specs.Calls.{AllWentWell}
 use Rattle.recovery.proofs.CallLemmas.{well-then}
 use Rattle.kept_log.specs.KeptView.{KeptView}
-use Rattle.kept_log.specs.Kept.{StartsWith}
-use Rattle.kept_log.specs.Steps.{AreNext, IsSince}
+use Rattle.kept_log.specs.Steps.{IsSince}
 use Rattle.kept_log.specs.Journal.{KeepsIn, AddedAll, AllMissed, LeavesNextAll}
 use Rattle.kept_log.proofs.Batches.{leaves-all, leaves-all-now, leaves-none, keeps-all}
 

@@ -1,5 +1,5 @@
 -- What an append of many cells makes of each history that a log keeps.
-use Rattle.std.proofs.Common.{◌≡◌, ◌⊎◌, inl, inr, ⊎_elim, ℕ, ◌≤◌, true, false, List, [], ◌∷◌, ◌++◌, length, Option, Some, None, refl, sym, ◌∙◌, ap, subst, arith, append_assoc, length-append}
+use Rattle.std.proofs.Common.{◌≡◌, ◌⊎◌, inl, inr, ⊎_elim, ℕ, ◌≤◌, true, false, List, [], ◌++◌, length, None, refl, sym, ◌∙◌, ap, subst, arith, append_assoc, length-append}
 use Rattle.std.proofs.lemmas.List.{append-nil}
 use Rattle.cell_format.specs.declared.cell.Cell.{Cell}
 use Rattle.cell_format.specs.Spelling.{newest}
@@ -9,7 +9,7 @@ use Rattle.plain_list.proofs.Histories.{has_failed, has_failed-none}
 use Rattle.disk_trait.specs.Drive.{Drive}
 use Rattle.disk_trait.specs.Moments.{LeavesOnly, LeavesNow, LeavesSince}
 use Rattle.split_log.specs.LogText.{IsLog, HoldsCells, HoldsAllOrNone}
-use Rattle.split_log.specs.Append.{AddsAll, AllFail}
+use Rattle.split_log.specs.Append.{AddsAll}
 use Rattle.log_state.specs.Recovers.{Recovers, IsLegalCells, is_legal_cells}
 use Rattle.log_state.specs.Changes.{cells_of, failed_cells}
 use Rattle.log_state.specs.Keeps.{RecoversAllOrNone}
