@@ -27,6 +27,8 @@ mod crowds;
 #[cfg(test)]
 mod fault_texts;
 #[cfg(test)]
+mod file_texts;
+#[cfg(test)]
 mod files;
 #[cfg(test)]
 mod fixtures;
@@ -38,6 +40,8 @@ mod leaves_anew;
 mod legal;
 #[cfg(test)]
 mod logs;
+#[cfg(test)]
+mod many_objects;
 #[cfg(test)]
 mod numbered;
 #[cfg(test)]
