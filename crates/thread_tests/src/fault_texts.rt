@@ -33,7 +33,7 @@ const NOT_RENEWED: &[(RenewFault, &str)] = &[
     ),
 ];
 
-pub(crate) fn expect_text(rt: &impl Abort, alloc: Global, fault: &impl Display, text: &str) {
+fn expect_text(rt: &impl Abort, alloc: Global, fault: &impl Display, text: &str) {
     let told = format!(in alloc; "{fault}").expect(rt, "it failed");
     assert_same!(rt; told.as_str(), text);
 }

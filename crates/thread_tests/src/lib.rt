@@ -27,8 +27,6 @@ mod crowds;
 #[cfg(test)]
 mod fault_texts;
 #[cfg(test)]
-mod file_texts;
-#[cfg(test)]
 mod files;
 #[cfg(test)]
 mod fixtures;
