@@ -22,7 +22,7 @@ const WATCHED: &[(WatchFault, &str)] = &[
     (WatchFault::Memory, "out of memory"),
 ];
 
-fn expect_text(rt: &impl Abort, alloc: Global, fault: &impl Display, text: &str) {
+pub(crate) fn expect_text(rt: &impl Abort, alloc: Global, fault: &impl Display, text: &str) {
     let told = format!(in alloc; "{fault}").expect(rt, "it failed");
     assert_same!(rt; told.as_str(), text);
 }

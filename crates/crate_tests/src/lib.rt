@@ -55,6 +55,8 @@ mod lines;
 #[cfg(test)]
 mod lists;
 #[cfg(test)]
+mod log_texts;
+#[cfg(test)]
 mod logs;
 #[cfg(test)]
 mod made_fences;

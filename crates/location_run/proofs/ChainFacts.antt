@@ -15,7 +15,8 @@ use Rattle.recovery.specs.LogText.{IsLog}
 use Rattle.recovery.specs.Found.{IsNewest}
 use Rattle.recovery.specs.Making.{IsSmall}
 use Rattle.zorder.specs.Width.{IsWidth}
-use Rattle.recovery.proofs.WidthLemmas.{recovers_width}
+use Rattle.recovery.proofs.Exclusive.{one_recovery}
+use Rattle.recovery.proofs.WidthLemmas.{recovers_width, same_width}
 use Rattle.command_words.specs.Words.{Command, Init, Check, Play, Show, Trial, Compact, Watch, Follow, AsksFor}
 use Rattle.command_words.proofs.WordsFacts.{init-width, one-command}
 use Rattle.csv_rows.specs.declared.rows.InRow.{InRow}
@@ -42,42 +43,56 @@ use Rattle.follow_run.specs.Replica.{EndsTurns, IsUnopened, PlaysTurns, machine_
 use Rattle.follow_run.specs.Following.{GivesNoTurns, GivesTurns, RefusesLeader, FollowsLeader}
 use Rattle.watch_run.specs.Watching.{GoesAlong}
 use Rattle.location_run.specs.Run.{Keeps}
-use Rattle.location_run.specs.Chain.{GoesOn, StandsStill, CopiesFirst, OnlyReads, PlaysOn, WritesFresh, WritesNew, FollowsNew, Leaves, MeetsNext, Chains, ChainsAsked}
+use Rattle.location_run.specs.Chain.{GoesOn, CopiesFirst, OnlyReads, PlaysOn, WritesFresh, WritesNew, FollowsNew, Leaves, MeetsNext, Chains, ChainsAsked}
 
 -- a drive that was only read
 stands-still : (a b : Drive) → KeepsLaws b → Stays a b → OnlyReads a b
-stands-still a b laws stays w cells holds = record {
-  any_moment = λ c left.
-      let now = laws.only_now c (subst (λ (t : ℕ). b.since t c) (sym stays.clock) left) in
-      subst (IsStanding w cells) (sym (holds.durable c (stays.images c now))) holds.standing;
-  stands = holds-same w cells a b stays.bytes stays.images holds;
-}
+stands-still a b laws stays =
+    let now : (c : List ℕ) → b.since a.clock c → a.images c =
+    λ c left. stays.images c (laws.only_now c (subst (λ (t : ℕ). b.since t c) (sym stays.clock) left)) in
+    record {
+      bytes = λ xs holds. record {
+        any_moment = λ c left. holds.durable c (now c left);
+        holds = record { told = stays.bytes ∙ holds.told; durable = λ c left. holds.durable c (stays.images c left) };
+      };
+      log = λ w cells holds. record {
+        any_moment = λ c left. subst (IsStanding w cells) (sym (holds.durable c (now c left))) holds.standing;
+        stands = holds-same w cells a b stays.bytes stays.images holds;
+      };
+    }
 
 -- one that is the value that it was
 same-still : (a b : Drive) → KeepsLaws b → b ≡ a → OnlyReads a b
-same-still a b laws same w cells holds = subst (λ (d : Drive). StandsStill w cells a d) (sym same) (record {
-  any_moment = λ c left. subst (IsStanding w cells) (sym (holds.durable c ((subst KeepsLaws same laws).only_now c left))) holds.standing;
-  stands = holds;
-})
+same-still a b laws same =
+    let now = (subst KeepsLaws same laws).only_now in
+    subst (λ (d : Drive). OnlyReads a d) (sym same) (record {
+      bytes = λ xs holds. record { any_moment = λ c left. holds.durable c (now c left); holds = holds };
+      log = λ w cells holds. record {
+        any_moment = λ c left. subst (IsStanding w cells) (sym (holds.durable c (now c left))) holds.standing;
+        stands = holds;
+      };
+    })
 
 -- a run without a history
-goes-still : (a b : Drive) (status : ℕ) (h : List Entry) (w : ℕ) (cells : List Cell) → h ≡ []
+goes-still : (a b : Drive) (status : ℕ) (h : List Entry) (w : ℕ) (cells : List Cell) → KeepsLaws b → a.clock ≤ b.clock → h ≡ []
     → ((image : List ℕ) → b.since a.clock image → IsStanding w cells image) → (status ≢ 7 → HoldsLog w cells b) → GoesOn w cells a b status h
-goes-still a b status h w cells none moments stands =
+goes-still a b status h w cells laws later none moments stands =
     let same : cells ++ [] ≡ cells = append-nil cells in
     subst (λ (l : List Entry). GoesOn w cells a b status l) (sym none) (record {
       any_moment = λ c left. (0, subst (λ (l : List Cell). IsStanding w l c) (sym same) (moments c left));
       stands = λ other. subst (λ (l : List Cell). HoldsLog w l b) (sym same) (stands other);
+      held = λ xs told. inl (subst (λ (l : List Cell). Recovers w l xs) (sym same) (moments xs (laws.counts_now a.clock xs later (laws.held xs told))).recovers);
     })
 
 -- there was no book for the rows
-goes-unopened : {D : Type 0} (file : List ℕ) (old new : Targets D) (status : ℕ) (h : List Entry) → IsLogUnopened (Some file) old new status h → PlaysOn old.drive new.drive status h
-goes-unopened file old new status h unopened w cells holds =
+goes-unopened : {D : Type 0} (file : List ℕ) (old new : Targets D) (status : ℕ) (h : List Entry) → KeepsLaws new.drive → IsLogUnopened (Some file) old new status h
+    → PlaysOn old.drive new.drive status h
+goes-unopened file old new status h laws unopened w cells holds =
     let (why, unread, refuses) = unopened.refused in
     let now : LeavesNow old.drive (Recovers w cells) = λ c left. subst (Recovers w cells) (sym (holds.durable c left)) holds.standing.recovers in
     let version : LeavesNow old.drive IsNewest = λ c left. subst IsNewest (sym (holds.durable c left)) holds.standing.version in
     let has = recovers_width w cells holds.bytes holds.standing.known holds.standing.recovers in
-    goes-still old.drive new.drive status h w cells unopened.none
+    goes-still old.drive new.drive status h w cells laws (unread.newest version).later unopened.none
     (λ c left. record {
       known = holds.standing.known;
       recovers = (unread.keeps w holds.bytes holds.told has holds.bytes cells holds.told now).each c left;
@@ -110,12 +125,21 @@ goes-answered report file size rows old new status h laws answered w cells holds
           let log = text other in
           holds-text w (cells ++ cells_of (state_of w cells).world h) new.drive holds.standing.known
           (kept.all other log.bytes (laws.held log.bytes log.told)).legal log;
+      held = λ xs told. kept.at_end xs (laws.held xs told);
     }
 
 goes-rows : {D : Type 0} (report : _) (file : List ℕ) (size : ℕ) (rows : List InRow) (old new : Targets D) (status : ℕ) (h : List Entry) → KeepsLaws new.drive
     → PlaysRows report (Some file) size rows old new status h → PlaysOn old.drive new.drive status h
-goes-rows report file size rows old new status h laws (inl unopened) = goes-unopened file old new status h unopened
+goes-rows report file size rows old new status h laws (inl unopened) = goes-unopened file old new status h laws unopened
 goes-rows report file size rows old new status h laws (inr answered) = goes-answered report file size rows old new status h laws answered
+
+-- a drive tells the log of one width and one list of cells
+told-width : (v w : ℕ) (own cells : List Cell) (bytes : List ℕ) → IsWidth v → Recovers v own bytes → IsWidth w → Recovers w cells bytes → v ≡ w
+told-width v w own cells bytes known recovers also is = same_width v w bytes (recovers_width v own bytes known recovers) (recovers_width w cells bytes also is)
+
+told-list : (v w : ℕ) (own cells : List Cell) (bytes : List ℕ) → IsWidth v → Recovers v own bytes → IsWidth w → Recovers w cells bytes → own ≡ cells
+told-list v w own cells bytes known recovers also is =
+    one_recovery w own cells bytes (subst (λ (u : ℕ). Recovers u own bytes) (told-width v w own cells bytes known recovers also is) recovers) is
 
 -- nothing was done to the second file, and no lines were written
 copies-none : (w : ℕ) (cells : List Cell) (a b : Drive) (status : ℕ) → KeepsLaws b → b ≡ a → (WritesLines status → ⊥) → CopiesFirst w cells a b status
@@ -241,8 +265,8 @@ module _ {S D : Type 0} (done : Done (Ends S D)) (same : done.new.to.disk ≡ do
 
   back-goes : done.history ≡ [] → new.disk ≡ old.disk → PlaysOn old.drive new.drive done.status done.history
   back-goes none back w cells holds =
-      let still = back-still back w cells holds in
-      goes-still old.drive new.drive done.status done.history w cells none still.any_moment (λ other. still.stands)
+      let still = (back-still back).log w cells holds in
+      goes-still old.drive new.drive done.status done.history w cells laws (omega (arith, ap (λ (d : Drive). d.clock) (same back))) none still.any_moment (λ other. still.stands)
 
   none-rows : (report : _) (size : ℕ) (rows : List InRow) → PlaysRows report None size rows old new done.status done.history → OnlyReads old.drive new.drive
   none-rows report size rows (inl unopened) = let (why, (memory, back), refuses) = unopened.refused in back-still back
@@ -285,8 +309,8 @@ module _ {S D : Type 0} (done : Done (Ends S D)) (same : done.new.to.disk ≡ do
       let own : List Cell = follows.cells in
       let leading = follows.found.leading in
       let recovers = follows.found.recovers holds.bytes holds.told in
-      subst (λ (l : List Cell). CopiesFirst w l old.other_drive new.other_drive done.status) (one-list v w own cells holds.bytes leading.known recovers holds.standing)
-      (subst (λ (u : ℕ). CopiesFirst u own old.other_drive new.other_drive done.status) (one-width v w own cells holds.bytes leading.known recovers holds.standing)
+      subst (λ (l : List Cell). CopiesFirst w l old.other_drive new.other_drive done.status) (told-list v w own cells holds.bytes leading.known recovers holds.known holds.recovers)
+      (subst (λ (u : ℕ). CopiesFirst u own old.other_drive new.other_drive done.status) (told-width v w own cells holds.bytes leading.known recovers holds.known holds.recovers)
       (copies-ends v own leading.known leading.legal old.other_drive new.other_drive done.status old.output new.output bytes told laws-before turns follows.ends.ends))
 
   turns-followed : (file name : List ℕ) → GivesNoTurns done.old.input done.new.input old new done.status ⊎ GivesTurns file name done.old.input done.new.input old new done.status → FollowsNew old new done.status
@@ -327,14 +351,14 @@ module _ {S D : Type 0} (done : Done (Ends S D)) (same : done.new.to.disk ≡ do
       let own : List Cell = wrote.cells in
       let known = wrote.found.known in
       let recovers = wrote.found.recovers holds.bytes holds.told in
-      subst (λ (l : List Cell). WritesFresh w (fresh-of w l) old.other_drive new.other_drive done.status) (one-list v w own cells holds.bytes known recovers holds.standing)
-      (subst (λ (u : ℕ). WritesFresh u (fresh-of u own) old.other_drive new.other_drive done.status) (one-width v w own cells holds.bytes known recovers holds.standing)
+      subst (λ (l : List Cell). WritesFresh w (fresh-of w l) old.other_drive new.other_drive done.status) (told-list v w own cells holds.bytes known recovers holds.known holds.recovers)
+      (subst (λ (u : ℕ). WritesFresh u (fresh-of u own) old.other_drive new.other_drive done.status) (told-width v w own cells holds.bytes known recovers holds.known holds.recovers)
       (fresh-ends name v own bytes known told wrote.ends))
 
   leaves-next : (words : List (List ℕ)) (c : Command) → AsksFor words c → Keeps c done → Leaves c old new done.status done.history
   leaves-next words (Init file width) asks keeps =
       let makes = keeps.did.ends in
-      record { any_moment = λ small. (makes.leaves.small small).each; stands = log-made width (init-width words file width asks) makes.ends }
+      record { any_moment = λ small. (makes.leaves.small small).each; in_use = λ xs is long. stands-still old.drive new.drive laws (makes.leaves.in_use xs is long); stands = log-made width (init-width words file width asks) makes.ends }
   leaves-next words (Check file) asks keeps = stands-still old.drive new.drive laws keeps.did.ends.stays
   leaves-next words (Show file region) asks keeps = stands-still old.drive new.drive laws keeps.did.ends.stays
   leaves-next words (Play None size) asks keeps = none-played size keeps.goes

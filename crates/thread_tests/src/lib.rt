@@ -39,6 +39,8 @@ mod legal;
 #[cfg(test)]
 mod logs;
 #[cfg(test)]
+mod many_objects;
+#[cfg(test)]
 mod numbered;
 #[cfg(test)]
 mod orders;
