@@ -1,13 +1,12 @@
 -- The command `check`.
-use Rattle.std.specs.Prelude.{◌≡◌, ◌≢◌, ◌⊎◌, ◌≤◌, ℕ, List, length, Some, false, Result, IfErr}
+use Rattle.std.specs.Prelude.{◌≡◌, ◌≢◌, ◌⊎◌, ◌≤◌, ℕ, List, length, Some, false, Result, IfErr, None}
 use Rattle.std.specs.Result.{IsErrAnd}
 use Rattle.causes.specs.Causes.{Rose}
 use Rattle.disk_trait.specs.Drive.{Drive, AttachedOne, Stays}
 use Rattle.cell_format.specs.declared.cell.Cell.{Cell}
 use Rattle.log_state.specs.Recovers.{IsLegalCells, Recovers, state_of}
-use Rattle.recovery.specs.Faults.{IsInBytes}
+use Rattle.recovery.specs.Faults.{IsInBytes, IsFault}
 use Rattle.zorder.specs.Width.{IsWidth}
-use Rattle.recovery.specs.Widths.{IsLogFault}
 use Rattle.recovery.specs.declared.seen.Seen.{Seen}
 use Rattle.recovery.specs.declared.seen.OpenFault.{OpenFault}
 use Rattle.run_ends.specs.declared.log_lines.LogCounts.{LogCounts}
@@ -65,7 +64,7 @@ TellsCells text old status before after = (w : ℕ) × (cells : List Cell) × Fi
 pub record IsDecided (old new : Drive) (status : ℕ) (before after : Output) : Type 0 where
   -- a fault of the bytes is reported, unless the drive failed or memory ran out
   pub exact : (bytes : List ℕ) (fault : OpenFault) → old.bytes ≡ Some bytes → IsInBytes fault
-      → IsLogFault oldest_read most_inspected bytes fault → (Rose old.faults new.faults → ⊥)
+      → IsFault oldest_read None most_inspected bytes fault → (Rose old.faults new.faults → ⊥)
       → Refuses (log_refusal fault) status before after ⊎ (status ≡ 9)
   -- if the bytes recover to records, their text is written, unless the drive or the sink failed or memory ran out
   pub whole : (bytes : List ℕ) (w : ℕ) (cells : List Cell) → old.bytes ≡ Some bytes → IsWidth w → Recovers w cells bytes
@@ -74,7 +73,7 @@ pub record IsDecided (old new : Drive) (status : ℕ) (before after : Output) : 
 
 -- the same about a reading's result, if at most `most` records are read
 pub record IsDecidedBy {T : Type 0} (most : ℕ) (old new : Drive) (result : Result T Refusal) : Type 0 where
-  pub exact : (bytes : List ℕ) (fault : OpenFault) → old.bytes ≡ Some bytes → IsInBytes fault → IsLogFault oldest_read most bytes fault
+  pub exact : (bytes : List ℕ) (fault : OpenFault) → old.bytes ≡ Some bytes → IsInBytes fault → IsFault oldest_read None most bytes fault
       → (Rose old.faults new.faults → ⊥)
       → IsErrAnd result (λ why. (why ≡ log_refusal fault) ⊎ (why ≡ refusal.Memory))
   pub whole : (bytes : List ℕ) (w : ℕ) (cells : List Cell) → old.bytes ≡ Some bytes → IsWidth w → Recovers w cells bytes

@@ -7,9 +7,8 @@ use Rattle.plain_list.specs.World.{World}
 use Rattle.cell_format.specs.declared.cell.Cell.{Cell}
 use Rattle.log_state.specs.Recovers.{Recovers, state_of}
 use Rattle.recovery.specs.LogText.{IsLog}
-use Rattle.recovery.specs.Faults.{IsInBytes}
+use Rattle.recovery.specs.Faults.{IsInBytes, IsFault}
 use Rattle.zorder.specs.Width.{IsWidth}
-use Rattle.recovery.specs.Widths.{IsLogFault}
 use Rattle.recovery.specs.Calls.{StopsAtFault}
 use Rattle.recovery.specs.Making.{IsSmall}
 use Rattle.recovery.specs.declared.seen.OpenFault.{OpenFault}
@@ -107,7 +106,7 @@ pub record RecoversFew (drive : Drive) (cells : List Cell) : Type 0 where
 pub record IsDecidedAnew {D : Type 0} (old new : Targets D) (status : ℕ) : Type 0 where
   -- a fault of the first file's bytes is reported, unless its drive failed or memory ran out
   pub exact : (bytes : List ℕ) (fault : OpenFault) → old.drive.bytes ≡ Some bytes → IsInBytes fault
-      → IsLogFault oldest_read most_inspected bytes fault → (Rose old.drive.faults new.drive.faults → ⊥)
+      → IsFault oldest_read None most_inspected bytes fault → (Rose old.drive.faults new.drive.faults → ⊥)
       → Refuses (log_refusal fault) status old.output new.output ⊎ (status ≡ 9)
   -- status 10 says that the first file recovers to records
   pub recovers : status ≡ 10 → (bytes : List ℕ) → old.drive.bytes ≡ Some bytes → (cells : List Cell) × RecoversFew old.drive cells
