@@ -10,8 +10,8 @@ use crate::world::{Member, World};
 use std::alloc::{AllocError, Global};
 use zorder::{Memory, Placed, Region};
 
-/// How many objects the answer to a box may list.
-pub(crate) const MOST_LISTED: usize = 2048;
+/// How many objects the answer to a box may list: of more only their number is told.
+pub const MOST_LISTED: usize = 2_048;
 
 /// Whether the lower corner is at most the upper one, on both axes.
 pub fn is_box(region: &Region) -> bool
