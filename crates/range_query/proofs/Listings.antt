@@ -10,7 +10,7 @@ use Rattle.zorder.specs.declared.points.Region.{Region}
 use Rattle.zorder.specs.Region.{has_point}
 use Rattle.bucket_versions.specs.declared.row.Row.{Row}
 use Rattle.plain_list.specs.declared.ops.Answer.TheVariants.{Found, Many}
-use Rattle.plain_list.specs.Queries.{members_in, listed}
+use Rattle.plain_list.specs.Queries.{members_in, most_listed, listed}
 use Rattle.table_share.specs.Objects.{placed_of, objects_of}
 use Rattle.range_query.specs.Cut.{number_in}
 use Rattle.range_query.specs.Listing.{IsListing}
@@ -63,23 +63,24 @@ passed-by region ms all rows left r listing first away p = record {
 }
 
 -- objects that are only counted, where no more can be listed
-pub counted-on : (ms more : List Placed) (old new : Listing) → new.list.items ≡ old.list.items → 2048 ≤ old.count → new.count ≡ old.count + length more → IsListing ms old → IsListing (ms ++ more) new
-counted-on ms more old new same full count is = (
-  omega (arith, count, is.0, length-append ms more),
-  λ few.
-      let none : more ≡ [] = nil_from_length more (omega (arith, few, full, is.0, length-append ms more)) in
-      same ∙ is.1 (omega (arith, few, length-append ms more)) ∙ sym (append-nil ms) ∙ ap (λ xs. ms ++ xs) (sym none),
-)
+pub counted-on : (ms more : List Placed) (old new : Listing) → new.list.items ≡ old.list.items → most_listed ≤ old.count → new.count ≡ old.count + length more → IsListing ms old → IsListing (ms ++ more) new
+counted-on ms more old new same full count is = record {
+  count = omega (arith, count, is.count, length-append ms more);
+  items = λ few.
+      let none : more ≡ [] = nil_from_length more (omega (arith, few, full, is.count, length-append ms more)) in
+      same ∙ is.items (omega (arith, few, length-append ms more)) ∙ sym (append-nil ms) ∙ ap (λ xs. ms ++ xs) (sym none);
+  few = omega (arith, is.few, ap length same);
+}
 
 -- the answer that a list of the objects is
-pub listed-many : (ms found : List Placed) (n : ℕ) → IsPermutation ms found → n ≡ length found → 2048 < n → Many n ≡ listed ms
+pub listed-many : (ms found : List Placed) (n : ℕ) → IsPermutation ms found → n ≡ length found → most_listed < n → Many n ≡ listed ms
 listed-many ms found n moved is many =
     let long : length ms ≡ n = omega (arith, is, length_permutation ms found moved) in
-    let no : nat_le (length ms) 2048 ≡ false = grind (arith, nat_tests) in
+    let no : nat_le (length ms) most_listed ≡ false = grind (arith, nat_tests) in
     ap Many (sym long) ∙ ap (λ b. cond b (Found ms) (Many (length ms))) (sym no)
 
-pub listed-found : (ms found list : List Placed) (n : ℕ) → IsPermutation ms found → n ≡ length found → n ≤ 2048 → list ≡ ms → Found list ≡ listed ms
+pub listed-found : (ms found list : List Placed) (n : ℕ) → IsPermutation ms found → n ≡ length found → n ≤ most_listed → list ≡ ms → Found list ≡ listed ms
 listed-found ms found list n moved is few same =
     let long : length ms ≡ n = omega (arith, is, length_permutation ms found moved) in
-    let yes : nat_le (length ms) 2048 ≡ true = grind (arith, nat_tests) in
+    let yes : nat_le (length ms) most_listed ≡ true = grind (arith, nat_tests) in
     ap Found same ∙ ap (λ b. cond b (Found ms) (Many (length ms))) (sym yes)

@@ -3,13 +3,16 @@ use Rattle.std.specs.Prelude.{◌≡◌, ◌≤◌, ◌<◌, ◌+◌, ◌^◌, �
 use Rattle.zorder.specs.declared.points.Placed.{Placed}
 use Rattle.bucket_versions.specs.declared.row.Row.{Row}
 use Rattle.table_share.specs.Objects.{objects_of}
+use Rattle.plain_list.specs.Queries.{most_listed}
 use Rattle.plain_list.specs.declared.ops.Answer.{Answer}
 use Rattle.plain_list.specs.declared.ops.Answer.TheVariants.{Found}
 use Rattle.range_query.specs.declared.found.Listing.{Listing}
 
 -- the count is the number of objects, and the list has them if they are at most 2,048
-abbrev pub IsListing : List Placed → Listing → Type 0
-IsListing ms listing = (listing.count ≡ length ms) × (length ms ≤ 2048 → listing.list.items ≡ ms)
+pub record IsListing (ms : List Placed) (listing : Listing) : Type 0 where
+  pub count : listing.count ≡ length ms
+  pub items : length ms ≤ most_listed → listing.list.items ≡ ms
+  pub few : length listing.list.items ≤ most_listed
 
 -- the objects `more` are appended, if their total fits in 64 bits
 abbrev pub Adds : {T E : Type 0} → Result T E → List Placed → Listing → Listing → Type 0

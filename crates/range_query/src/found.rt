@@ -2,7 +2,7 @@
 ghost use Rattle.std.specs.Prelude.{◌≡◌, ◌≤◌, ◌<◌, ◌+◌, ◌∷◌, [], length, true, IfOk, OnOk};
 ghost use Rattle.zorder.specs.declared.points.Placed.{Placed};
 ghost use Rattle.zorder.specs.Region.{IsBox};
-ghost use Rattle.plain_list.specs.Queries.{members_in, listed};
+ghost use Rattle.plain_list.specs.Queries.{members_in, most_listed, listed};
 ghost use Rattle.index_layer.specs.Leaves.{all_rows};
 ghost use Rattle.index_layer.specs.Subtree.{subtree};
 ghost use Rattle.table_share.specs.KeysUnder.{AreKeysUnder, AreAllKeysUnder};
@@ -24,7 +24,7 @@ use table_share::placed;
 use zorder::{Memory, Name, Placed, Region, child, key};
 
 // The number of objects that the answer to a box may list.
-const MOST_LISTED: u64 = 2_048;
+const MOST_LISTED: u64 = plain_list::MOST_LISTED as u64;
 
 // The number of objects for which memory is taken at the start.
 const FEW_FOUND: usize = 32;
@@ -102,7 +102,7 @@ fn list_below<I: Index, L: Ledger>(
     ensures lists { AreAllKeysUnder (I.leaves index.now) → Adds result (held_below region.now name.now (I.leaves index.now)) found.old found.new }
     ensures grows { found.old.count ≤ found.new.count }
     ensures opened { steps.new ≤ steps.old + length (below_met region.now name.now (I.leaves index.now)) }
-    ensures exact { OnOk result (found.new.count ≤ 2048 → steps.new ≡ steps.old + length (below_met region.now name.now (I.leaves index.now))) }
+    ensures exact { OnOk result (found.new.count ≤ most_listed → steps.new ≡ steps.old + length (below_met region.now name.now (I.leaves index.now))) }
 {
     if !meets(area, region) {
         return Ok(());
@@ -132,7 +132,7 @@ fn list_whole<I: Index, L: Ledger>(
     ensures lists { AddsAll result (all_rows (subtree name.now (I.leaves index.now))) found.old found.new }
     ensures grows { found.old.count ≤ found.new.count }
     ensures opened { steps.new ≤ steps.old + length (subtree name.now (I.leaves index.now)) }
-    ensures exact { OnOk result (found.new.count ≤ 2048 → steps.new ≡ steps.old + length (subtree name.now (I.leaves index.now))) }
+    ensures exact { OnOk result (found.new.count ≤ most_listed → steps.new ≡ steps.old + length (subtree name.now (I.leaves index.now))) }
 {
     let count = found.count.saturating_add(index.count_below(name, place));
     if count <= MOST_LISTED {

@@ -12,11 +12,8 @@ ghost use Rattle.store_client.specs.Caller.{is_near};
 
 use commit_book::Room;
 pub use commit_book::{MOST_CELLS_TO_BEGIN, MOST_EVENTS, MOST_EVENTS_TO_BEGIN};
-pub use plain_list::MOST_MEMBERS;
+pub use plain_list::{MOST_LISTED, MOST_MEMBERS};
 pub use split_log::MOST_CELLS;
-
-/// How many objects of a box are listed: of more only their number is told.
-pub const MOST_LISTED: usize = 2_048;
 
 /// How many objects `nearest` may be asked for.
 pub const MOST_NEAREST: u32 = 2_048;

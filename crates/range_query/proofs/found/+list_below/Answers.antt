@@ -2,6 +2,7 @@ use Rattle.std.proofs.Common.{◌≡◌, ◌≤◌, ◌+◌, ◌++◌, ◌∷◌
 use Rattle.std.specs.Arc.{arc_value}
 use Rattle.std.proofs.lemmas.List.{length-map}
 use Rattle.zorder.specs.declared.points.Placed.{Placed}
+use Rattle.plain_list.specs.Queries.{most_listed}
 use Rattle.prefix_names.specs.Regions.{region_of}
 use Rattle.index_layer.specs.Leaves.{Leaf, all_rows}
 use Rattle.table_share.specs.KeysUnder.{AreKeysUnder}
@@ -70,7 +71,7 @@ returns-then-inside-clause-exact g t c =
     let name = c.args.name.now in
     let met = met-whole c.args.region.now c.requires.is_box name (within-name c.args.area.now c.args.region.now name c.requires.area (c.inside.ensures.points.0 c.if-inside.true))
     0 (g.I.Index.leaves c.args.index.now) (g.met.I.Index.are_leaves c.args.index.now).tile in
-    subst (λ n. OnOk c.list_whole.result (c.list_whole.new.found.count ≤ 2048 → c.list_whole.new.steps ≡ c.args.steps.now + n)) (sym (ap length met)) c.list_whole.ensures.exact
+    subst (λ n. OnOk c.list_whole.result (c.list_whole.new.found.count ≤ most_listed → c.list_whole.new.steps ≡ c.args.steps.now + n)) (sym (ap length met)) c.list_whole.ensures.exact
 
 pub inside-requires-clause-a_box : goal.inside-requires-clause-a_box
 inside-requires-clause-a_box g t c = area-box c.args.name.now c.args.area.now c.requires.area

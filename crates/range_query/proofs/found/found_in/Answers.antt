@@ -53,7 +53,7 @@ returns-then-found-gt-MOST_LISTED-clause-answer g c places names are_places stan
     let held = held-of region c.requires (subtree c.reach-name.result.0 leaves) leaves (met-below c.args.region.now c.requires c.key.result c.key-2.result c.key.ensures.sum c.key.ensures.back c.key-2.ensures.sum c.key-2.ensures.back (g.I.Index.leaves c.args.index.now) (g.met.I.Index.are_leaves c.args.index.now).tile c.reach-name.result.0 c.reach-name.ensures.some c.reach-name.ensures.over) (g.met.I.Index.are_leaves c.args.index.now).tile under in
     let fits = number-fits region leaves places names are_places stands in
     let is = c.in_ok-list_below.ensures.lists under [] (omega (arith, fits, ap length held)) c.in_ok-found.ensures in
-    listed-many (members_in region places) (members_in region (objects_of (all_rows leaves))) c.list_below.new.found.count (shuffled region leaves places names are_places stands) (is.0 ∙ ap length held) (omega (arith, c.if-found-gt-MOST_LISTED.true))
+    listed-many (members_in region places) (members_in region (objects_of (all_rows leaves))) c.list_below.new.found.count (shuffled region leaves places names are_places stands) (is.count ∙ ap length held) (omega (arith, c.if-found-gt-MOST_LISTED.true))
 
 pub returns-then-found-gt-MOST_LISTED-clause-opened : goal.returns-then-found-gt-MOST_LISTED-clause-opened
 returns-then-found-gt-MOST_LISTED-clause-opened g c =
@@ -67,13 +67,13 @@ returns-clause-answer g c places names are_places stands =
     let held = held-of region c.requires (subtree c.reach-name.result.0 leaves) leaves (met-below c.args.region.now c.requires c.key.result c.key-2.result c.key.ensures.sum c.key.ensures.back c.key-2.ensures.sum c.key-2.ensures.back (g.I.Index.leaves c.args.index.now) (g.met.I.Index.are_leaves c.args.index.now).tile c.reach-name.result.0 c.reach-name.ensures.some c.reach-name.ensures.over) (g.met.I.Index.are_leaves c.args.index.now).tile under in
     let fits = number-fits region leaves places names are_places stands in
     let is = c.in_ok-list_below.ensures.lists under [] (omega (arith, fits, ap length held)) c.in_ok-found.ensures in
-    let found : c.list_below.new.found.list.items ≡ members_in region (objects_of (all_rows leaves)) = is.1 (omega (arith, is.0, c.if-found-gt-MOST_LISTED.false)) ∙ held in
+    let found : c.list_below.new.found.list.items ≡ members_in region (objects_of (all_rows leaves)) = is.items (omega (arith, is.count, c.if-found-gt-MOST_LISTED.false)) ∙ held in
     let ys : List Placed = c.sort_unstable_by_key.new.self.items in
     let moved = shuffled region leaves places names are_places stands in
     let perm : IsPermutation (members_in region places) ys =
     IsPermutation-trans (members_in region places) (members_in region (objects_of (all_rows leaves))) ys moved (subst (λ (l : List Placed). IsPermutation l ys) found c.sort_unstable_by_key.ensures.permutation) in
     let sorted = c.sort_unstable_by_key.ensures.sorted (λ m. m.id) (always_returns_same _ _ _ (λ a r q k. search rules)) in
-    listed-found (members_in region places) (members_in region (objects_of (all_rows leaves))) c.from_vec.result c.list_below.new.found.count moved (is.0 ∙ ap length held) (omega (arith, c.if-found-gt-MOST_LISTED.false))
+    listed-found (members_in region places) (members_in region (objects_of (all_rows leaves))) c.from_vec.result c.list_below.new.found.count moved (is.count ∙ ap length held) (omega (arith, c.if-found-gt-MOST_LISTED.false))
     (c.from_vec.ensures ∙ c.shrink_to_fit.ensures.items ∙ same_as_rising (members_in region places) ys (IsRising-members_in region places are_places.rising) perm sorted)
 
 pub returns-clause-opened : goal.returns-clause-opened
