@@ -43,7 +43,7 @@ pub record AreOnWay {D : Type 0} (first now : Drive) (start walk : WalkView D) (
 pub record NextTells {D : Type 0} (now new : Drive) (walk after : WalkView D) (told : Result (Option Walked) OpenFault) : Type 0 where
   pub tells : (w most : ℕ) (cells : List Cell) → ComesTo w most cells now walk → TellsWalked w most cells now new after told
   pub exact : (w most : ℕ) (cells : List Cell) (bytes : List ℕ) (fault : OpenFault) → ComesTo w most cells now walk → now.bytes ≡ Some bytes → IsInBytes fault
-      → IsFault 1 w most bytes fault → TellsFault fault now new told
+      → IsFault 1 (Some w) most bytes fault → TellsFault fault now new told
   pub whole : (w most : ℕ) (all cells : List Cell) (bytes : List ℕ) → ComesTo w most cells now walk → now.bytes ≡ Some bytes → Recovers w all bytes → length all ≤ most
       → TellsAll all cells now new told
 

@@ -22,7 +22,7 @@ pub record IsLed {D : Type 0} (w most : ℕ) (front begun : List Cell) (taken : 
   pub begins : (more : List Cell) × (cells ≡ begun ++ more)
   pub tallies : TalliesFrom (length front) (state_of w front).world taken cells fences v
   pub tells : TellsWalked w most (front ++ cells) old new walk told
-  pub exact : (bytes : List ℕ) (fault : OpenFault) → old.bytes ≡ Some bytes → IsInBytes fault → IsFault 1 w most bytes fault
+  pub exact : (bytes : List ℕ) (fault : OpenFault) → old.bytes ≡ Some bytes → IsInBytes fault → IsFault 1 (Some w) most bytes fault
       → TellsFault fault old new told
   pub whole : (all : List Cell) (bytes : List ℕ) → old.bytes ≡ Some bytes → Recovers w all bytes → length all ≤ most
       → TellsAll all (front ++ cells) old new told

@@ -14,10 +14,10 @@ use Rattle.recovery.specs.Faults.{IsFault, IsInBytes}
 use Rattle.recovery.specs.Found.{IsFree}
 use Rattle.recovery.specs.Reading.{OnlyReads}
 use Rattle.recovery.specs.Walks.{WalkView, ComesTo, TellsWalked, IsOfHead}
-use Rattle.recovery.specs.Wanted.{MayTellLog}
+use Rattle.recovery.specs.Wanted.{MayTell}
 use Rattle.recovery.specs.declared.walked.Walked.{Walked}
 use Rattle.zorder.specs.Width.{IsWidth}
-use Rattle.recovery.specs.Widths.{IsWidthOf, HasWidth, IsLogFault}
+use Rattle.recovery.specs.Widths.{IsWidthOf, HasWidth}
 use Rattle.recovery.proofs.Exclusive.{one_fault, recovers_no_fault, recovers_wanted, one_recovery}
 use Rattle.recovery.proofs.OnlyReading.{stays-trans, rose-earlier}
 use Rattle.recovery.proofs.WidthLemmas.{recovers_width, same_width, fault_seen, fault_at}
@@ -53,7 +53,7 @@ reads-failed {U = U} a b c x e first second = record {
 
 -- the fault that is told is the one that the bytes show, unless they don't decide
 module _ (w : ℕ) (bytes : List ℕ) (a b : Drive) where
-  pub exact-of : (e : OpenFault) → IsFault oldest_read w most_followed bytes e → (e ≡ open_fault.Disk → Rose a.faults b.faults) → (shown : OpenFault) → IsInBytes shown → IsFault oldest_read w most_followed bytes shown → (e ≡ shown) ⊎ IsFree a b e
+  pub exact-of : (e : OpenFault) → IsFault oldest_read (Some w) most_followed bytes e → (e ≡ open_fault.Disk → Rose a.faults b.faults) → (shown : OpenFault) → IsInBytes shown → IsFault oldest_read (Some w) most_followed bytes shown → (e ≡ shown) ⊎ IsFree a b e
   exact-of open_fault.NotLog is rose f shown wrong = inl (one_fault oldest_read w most_followed (lit≤ tt) bytes open_fault.NotLog f tt shown is wrong)
   exact-of (open_fault.OldLog version width) is rose f shown wrong = inl (one_fault oldest_read w most_followed (lit≤ tt) bytes (open_fault.OldLog version width) f tt shown is wrong)
   exact-of (open_fault.Damaged number cause) is rose f shown wrong = inl (one_fault oldest_read w most_followed (lit≤ tt) bytes (open_fault.Damaged number cause) f tt shown is wrong)
@@ -61,7 +61,7 @@ module _ (w : ℕ) (bytes : List ℕ) (a b : Drive) where
   exact-of open_fault.Memory is rose f shown wrong = inr (inl refl)
   exact-of (open_fault.TooLong limit) is rose f shown wrong = inl (one_fault oldest_read w most_followed (lit≤ tt) bytes (open_fault.TooLong limit) f tt shown is wrong)
 
-  pub whole-of : (e : OpenFault) → IsFault oldest_read w most_followed bytes e → (e ≡ open_fault.Disk → Rose a.faults b.faults) → (cells : List Cell) → Recovers w cells bytes → length cells ≤ most_followed → IsFree a b e
+  pub whole-of : (e : OpenFault) → IsFault oldest_read (Some w) most_followed bytes e → (e ≡ open_fault.Disk → Rose a.faults b.faults) → (cells : List Cell) → Recovers w cells bytes → length cells ≤ most_followed → IsFree a b e
   whole-of open_fault.NotLog is rose cells recovers few = absurd (recovers_no_fault oldest_read w most_followed (lit≤ tt) bytes cells open_fault.NotLog recovers (recovers_wanted w cells bytes recovers) few tt is)
   whole-of (open_fault.OldLog version width) is rose cells recovers few = absurd (recovers_no_fault oldest_read w most_followed (lit≤ tt) bytes cells (open_fault.OldLog version width) recovers (recovers_wanted w cells bytes recovers) few tt is)
   whole-of (open_fault.Damaged number cause) is rose cells recovers few = absurd (recovers_no_fault oldest_read w most_followed (lit≤ tt) bytes cells (open_fault.Damaged number cause) recovers (recovers_wanted w cells bytes recovers) few tt is)
@@ -98,8 +98,8 @@ reads-leader file w a b c cells x stays same attached reads found = record {
 
 -- a file that was attached, and whose log wasn't read
 pub loses-leader : {T : Type 0} (file : List ℕ) (a b c : Drive) (e : OpenFault) → Stays a b → b.faults ≡ a.faults → AttachedOne file false a b → OnlyReads {T = T} b c (Err e)
-    → ((bytes : List ℕ) → b.bytes ≡ Some bytes → IsLogFault oldest_read most_followed bytes e) → MayTellLog oldest_read most_followed e
-    → ((bytes : List ℕ) (f : OpenFault) → b.bytes ≡ Some bytes → IsInBytes f → IsLogFault oldest_read most_followed bytes f → (e ≡ f) ⊎ IsFree b c e)
+    → ((bytes : List ℕ) → b.bytes ≡ Some bytes → IsFault oldest_read None most_followed bytes e) → MayTell oldest_read None most_followed e
+    → ((bytes : List ℕ) (f : OpenFault) → b.bytes ≡ Some bytes → IsInBytes f → IsFault oldest_read None most_followed bytes f → (e ≡ f) ⊎ IsFree b c e)
     → ((w : ℕ) (cells : List Cell) → RecoversLeader w cells b → IsFree b c e) → LosesLeader file a c (log_refusal e)
 loses-leader {T = T} file a b c e stays same attached reads wrong may exact whole =
     let later : a.faults ≤ b.faults = omega (arith, same) in
@@ -150,20 +150,10 @@ module _ {D : Type 0} (w : ℕ) (cells : List Cell) (a b : Drive) (walk : WalkVi
 pub along-width : (a b : Drive) (w : ℕ) → Stays a b → IsWidthOf b w → (bytes : List ℕ) → a.bytes ≡ Some bytes → HasWidth w bytes
 along-width a b w stays is bytes told = is.named bytes (stays.bytes ∙ told)
 
--- and where none does, a fault behind the head isn't told
-pub along-exact : (bytes : List ℕ) (a b : Drive) (e f : OpenFault) → (IsOfHead f → (e ≡ f) ⊎ IsFree a b e) → ((w : ℕ) → HasWidth w bytes → IsFree a b e) → IsInBytes f → IsLogFault oldest_read most_followed bytes f
-    → (e ≡ f) ⊎ IsFree a b e
-along-exact bytes a b e open_fault.NotLog head whole shown is = head tt
-along-exact bytes a b e (open_fault.OldLog version width) head whole shown is = head tt
-along-exact bytes a b e (open_fault.Damaged number why) head whole shown is = inr (whole is.0 is.1)
-along-exact bytes a b e (open_fault.TooLong limit) head whole shown is = inr (whole is.0 is.1)
-along-exact bytes a b e open_fault.Disk head whole shown is = absurd shown
-along-exact bytes a b e open_fault.Memory head whole shown is = absurd shown
-
 -- a log whose width was read, and then its cells
 module _ {D T : Type 0} (drive : D → Drive) (a b : Drive) (x : T) (first : OnlyReads a b (Ok x)) (w : ℕ) (has : (bytes : List ℕ) → a.bytes ≡ Some bytes → HasWidth w bytes) (result : Result (Leader D) (OpenRefused D))
     (found : IfOk result (λ l. (l.width ≡ w) × FindsLeader w b l.cells.items))
-    (wrong : IfErr result (λ e. (bytes : List ℕ) → b.bytes ≡ Some bytes → IsFault oldest_read w most_followed bytes e.cause))
+    (wrong : IfErr result (λ e. (bytes : List ℕ) → b.bytes ≡ Some bytes → IsFault oldest_read (Some w) most_followed bytes e.cause))
     (reads : MatchResult result (λ l. OnlyReads {T = Unit {0}} b (drive l.disk) (Ok tt)) (λ e. OnlyReads {T = Unit {0}} b (drive e.disk) (Err e.cause))) where
   pub led-found : IfOk result (λ l. FindsLeader l.width a l.cells.items)
   led-found = by_case result found
@@ -172,18 +162,18 @@ module _ {D T : Type 0} (drive : D → Drive) (a b : Drive) (x : T) (first : Onl
       by_case (Ok l) is = subst (λ (v : ℕ). FindsLeader v a l.cells.items) (sym is.0) (found-before w a b l.cells.items first.stays is.1)
       by_case (Err e) is = tt
 
-  pub led-fault : IfErr result (λ e. (bytes : List ℕ) → a.bytes ≡ Some bytes → IsLogFault oldest_read most_followed bytes e.cause)
+  pub led-fault : IfErr result (λ e. (bytes : List ℕ) → a.bytes ≡ Some bytes → IsFault oldest_read None most_followed bytes e.cause)
   led-fault = by_case result wrong
     where
-      by_case : (r : Result (Leader D) (OpenRefused D)) → IfErr r (λ e. (bytes : List ℕ) → b.bytes ≡ Some bytes → IsFault oldest_read w most_followed bytes e.cause)
-          → IfErr r (λ e. (bytes : List ℕ) → a.bytes ≡ Some bytes → IsLogFault oldest_read most_followed bytes e.cause)
+      by_case : (r : Result (Leader D) (OpenRefused D)) → IfErr r (λ e. (bytes : List ℕ) → b.bytes ≡ Some bytes → IsFault oldest_read (Some w) most_followed bytes e.cause)
+          → IfErr r (λ e. (bytes : List ℕ) → a.bytes ≡ Some bytes → IsFault oldest_read None most_followed bytes e.cause)
       by_case (Ok l) is = tt
       by_case (Err e) is = λ bytes told. fault_seen oldest_read most_followed bytes w (has bytes told) e.cause (is bytes (first.stays.bytes ∙ told))
 
-  pub led-exact : (bytes : List ℕ) (f : OpenFault) → a.bytes ≡ Some bytes → IsInBytes f → IsLogFault oldest_read most_followed bytes f → IsErrAnd result (λ e. (e.cause ≡ f) ⊎ IsFree a (drive e.disk) e.cause)
+  pub led-exact : (bytes : List ℕ) (f : OpenFault) → a.bytes ≡ Some bytes → IsInBytes f → IsFault oldest_read None most_followed bytes f → IsErrAnd result (λ e. (e.cause ≡ f) ⊎ IsFree a (drive e.disk) e.cause)
   led-exact bytes f told shown is = by_case result found wrong reads
     where
-      by_case : (r : Result (Leader D) (OpenRefused D)) → IfOk r (λ l. (l.width ≡ w) × FindsLeader w b l.cells.items) → IfErr r (λ e. (bytes : List ℕ) → b.bytes ≡ Some bytes → IsFault oldest_read w most_followed bytes e.cause)
+      by_case : (r : Result (Leader D) (OpenRefused D)) → IfOk r (λ l. (l.width ≡ w) × FindsLeader w b l.cells.items) → IfErr r (λ e. (bytes : List ℕ) → b.bytes ≡ Some bytes → IsFault oldest_read (Some w) most_followed bytes e.cause)
           → MatchResult r (λ l. OnlyReads {T = Unit {0}} b (drive l.disk) (Ok tt)) (λ e. OnlyReads {T = Unit {0}} b (drive e.disk) (Err e.cause)) → IsErrAnd r (λ e. (e.cause ≡ f) ⊎ IsFree a (drive e.disk) e.cause)
       by_case (Ok l) led fault_is only = absurd ((has-leader w b l.cells.items led.1).sound bytes f (first.stays.bytes ∙ told) shown is)
       by_case (Err e) led fault_is only =
@@ -193,7 +183,7 @@ module _ {D T : Type 0} (drive : D → Drive) (a b : Drive) (x : T) (first : Onl
   pub led-whole : (v : ℕ) (cells : List Cell) → RecoversLeader v cells a → IfErr result (λ e. IsFree a (drive e.disk) e.cause)
   led-whole v cells recovers = by_case result wrong reads
     where
-      by_case : (r : Result (Leader D) (OpenRefused D)) → IfErr r (λ e. (bytes : List ℕ) → b.bytes ≡ Some bytes → IsFault oldest_read w most_followed bytes e.cause)
+      by_case : (r : Result (Leader D) (OpenRefused D)) → IfErr r (λ e. (bytes : List ℕ) → b.bytes ≡ Some bytes → IsFault oldest_read (Some w) most_followed bytes e.cause)
           → MatchResult r (λ l. OnlyReads {T = Unit {0}} b (drive l.disk) (Ok tt)) (λ e. OnlyReads {T = Unit {0}} b (drive e.disk) (Err e.cause)) → IfErr r (λ e. IsFree a (drive e.disk) e.cause)
       by_case (Ok l) fault_is only = tt
       by_case (Err e) fault_is only =

@@ -324,7 +324,7 @@ module _ {D : Type 0} (drive : D → Drive) (w : ℕ) (cells : List Cell) (first
       opens_again : get_or turns made d ≡ Restart → (later : List Turn) × (drop made turns ≡ Restart ∷ later)
       opens_again is = (drop (made + 1) turns, at_now ∙ ap (λ (u : Turn). u ∷ drop (made + 1) turns) is)
 
-      stop-cause : (why : FollowFault) → IsTurnCause drive cells (get_or turns made d) f disk why → ((e : OpenFault) → why ≡ fault.Log e → MayTell newest w most_cells e)
+      stop-cause : (why : FollowFault) → IsTurnCause drive cells (get_or turns made d) f disk why → ((e : OpenFault) → why ≡ fault.Log e → MayTell newest (Some w) most_cells e)
           → IsStop w (length cells) f.state (drop made turns) start (drive disk) (follow_refusal why)
       stop-cause (fault.Strange cell) is may = ((opens_again is.0, untold_since is.1), is.2)
       stop-cause (fault.Log open_fault.Disk) is may = (opens_again is.0, rose_since is.1)
@@ -373,7 +373,7 @@ module _ {D : Type 0} (drive : D → Drive) (w : ℕ) (cells : List Cell) (first
             part = omega arith;
             stops = record {
               cause = subst (λ (s : Following). IsStop w count s (drop made turns) start (drive disk) (follow_refusal why)) has.state
-                  (stop-cause why fails.refused.cause (λ e is. subst (λ (v : ℕ). MayTell newest v most_cells e) has.width (fails.refused.may e is)));
+                  (stop-cause why fails.refused.cause (λ e is. subst (λ (v : ℕ). MayTell newest (Some v) most_cells e) has.width (fails.refused.may e is)));
               leaves = λ bytes told c left.
                   let now = told_now bytes told in
                   let leaves = fails.any_moment now.0 now.1 in

@@ -100,7 +100,7 @@ module _ (w : ℕ) (cells : List Cell) (a b : Drive) (laws : KeepsLaws a) (stays
   module _ (name : List ℕ) (attached : AttachedOne name true a b) (same : b.faults ≡ a.faults) where
     -- a follower was opened
     pub opened : {D : Type 0} (drive : D → Drive) (f : FollowerView D) → Opens drive w cells b f → KeepsTarget w cells b (drive f.disk)
-        → ((bytes : List ℕ) (why : OpenFault) → b.bytes ≡ Some bytes → 17 < length bytes → IsInBytes why → IsFault newest w most_held bytes why → ⊥)
+        → ((bytes : List ℕ) (why : OpenFault) → b.bytes ≡ Some bytes → 17 < length bytes → IsInBytes why → IsFault newest (Some w) most_held bytes why → ⊥)
         → ((bytes : List ℕ) (cell : ℕ) → b.bytes ≡ Some bytes → IsStrange w cells bytes cell → ⊥) → OpensReplica drive w cells name a f
     opened drive f opens keeps sound own = record {
       state = opens.state;
@@ -120,7 +120,7 @@ module _ (w : ℕ) (cells : List Cell) (a b : Drive) (laws : KeepsLaws a) (stays
       rose_since : Rose b.faults c.faults → Rose a.faults c.faults
       rose_since rose = rose-earlier a.faults b.faults c.faults (omega (arith, same)) rose
 
-      open-cause : (e : FollowFault) → IsOpenCause w cells b c e → (is_drives e ≡ true → Rose b.faults c.faults) → ((f : OpenFault) → e ≡ fault.Log f → MayTell newest w most_held f) → IsReplicaCause w cells a c (follow_refusal e)
+      open-cause : (e : FollowFault) → IsOpenCause w cells b c e → (is_drives e ≡ true → Rose b.faults c.faults) → ((f : OpenFault) → e ≡ fault.Log f → MayTell newest (Some w) most_held f) → IsReplicaCause w cells a c (follow_refusal e)
       open-cause (fault.Strange cell) is rose may = (is.0, λ bytes told. is.1 bytes (stays.bytes ∙ told))
       open-cause (fault.Log open_fault.NotLog) is rose may = λ bytes told. is bytes (stays.bytes ∙ told)
       open-cause (fault.Log (open_fault.OldLog version width)) is rose may = (may (open_fault.OldLog version width) refl, λ bytes told. is bytes (stays.bytes ∙ told))
@@ -136,7 +136,7 @@ module _ (w : ℕ) (cells : List Cell) (a b : Drive) (laws : KeepsLaws a) (stays
       memory calm free = free-memory b c why free (λ rose. calm (rose_since rose))
 
       -- none was
-      pub lost : ((bytes : List ℕ) (e : OpenFault) → b.bytes ≡ Some bytes → 17 < length bytes → IsInBytes e → IsFault newest w most_held bytes e → (why ≡ fault.Log e) ⊎ IsFree b c why)
+      pub lost : ((bytes : List ℕ) (e : OpenFault) → b.bytes ≡ Some bytes → 17 < length bytes → IsInBytes e → IsFault newest (Some w) most_held bytes e → (why ≡ fault.Log e) ⊎ IsFree b c why)
           → ((bytes : List ℕ) (cell : ℕ) → b.bytes ≡ Some bytes → IsStrange w cells bytes cell → (why ≡ fault.Strange cell) ⊎ IsFree b c why)
           → ((bytes : List ℕ) (first : ℕ) → b.bytes ≡ Some bytes → IsTaken w cells bytes first → IsFree b c why) → KeepsTarget w cells b c → LosesReplica w cells name a c (follow_refusal why)
       lost exact strange whole keeps = record {

@@ -1,11 +1,10 @@
 -- The command `follow`.
-use Rattle.std.specs.Prelude.{◌≡◌, ◌≢◌, ◌⊎◌, ◌+◌, ◌<◌, ℕ, false, List, [], length, Some, Result, Ok, Err}
+use Rattle.std.specs.Prelude.{◌≡◌, ◌≢◌, ◌⊎◌, ◌+◌, ◌<◌, ℕ, false, List, [], length, Some, Result, Ok, Err, None}
 use Rattle.causes.specs.Causes.{Rose}
 use Rattle.disk_trait.specs.Drive.{Stays}
 use Rattle.cell_format.specs.declared.cell.Cell.{Cell}
 use Rattle.cell_format.specs.Spelling.{newest}
 use Rattle.recovery.specs.Faults.{IsFault, IsInBytes}
-use Rattle.recovery.specs.Widths.{IsLogFault}
 use Rattle.recovery.specs.declared.seen.OpenFault.{OpenFault}
 use Rattle.follower.specs.declared.turns.Turn.{Turn}
 use Rattle.follower.specs.TurnRows.{turns_of_text}
@@ -53,12 +52,12 @@ pub record AreCalm {D : Type 0} (old new : Targets D) : Type 0 where
 pub record AreDecided {D : Type 0} (old new : Targets D) (status : ℕ) : Type 0 where
   pub exact :
       (bytes : List ℕ) (fault : OpenFault) → old.drive.bytes ≡ Some bytes → IsInBytes fault
-      → IsLogFault oldest_read most_followed bytes fault → (Rose old.drive.faults new.drive.faults → ⊥)
+      → IsFault oldest_read None most_followed bytes fault → (Rose old.drive.faults new.drive.faults → ⊥)
       → Refuses (log_refusal fault) status old.output new.output ⊎ (status ≡ 9)
   pub replica :
       (w : ℕ) (cells : List Cell) (bytes : List ℕ) (fault : OpenFault) → RecoversLeader w cells old.drive
       → old.other_drive.bytes ≡ Some bytes → 17 < length bytes → IsInBytes fault
-      → IsFault newest w most_held bytes fault → AreCalm old new
+      → IsFault newest (Some w) most_held bytes fault → AreCalm old new
       → Refuses (log_refusal fault) status old.output new.output ⊎ (status ≡ 9)
   pub strange :
       (w : ℕ) (cells : List Cell) (bytes : List ℕ) (cell : ℕ) → RecoversLeader w cells old.drive → old.other_drive.bytes ≡ Some bytes

@@ -1,12 +1,11 @@
 -- What is read of the first file.
-use Rattle.std.specs.Prelude.{◌≡◌, ◌⊎◌, ◌≤◌, ℕ, List, length, Some}
+use Rattle.std.specs.Prelude.{◌≡◌, ◌⊎◌, ◌≤◌, ℕ, List, length, Some, None}
 use Rattle.causes.specs.Causes.{Rose}
 use Rattle.disk_trait.specs.Drive.{Drive, Stays}
 use Rattle.cell_format.specs.declared.cell.Cell.{Cell}
 use Rattle.log_state.specs.Recovers.{Recovers}
-use Rattle.recovery.specs.Faults.{IsInBytes}
+use Rattle.recovery.specs.Faults.{IsInBytes, IsFault}
 use Rattle.zorder.specs.Width.{IsWidth}
-use Rattle.recovery.specs.Widths.{IsLogFault}
 use Rattle.recovery.specs.declared.seen.OpenFault.{OpenFault}
 use Rattle.follower.specs.Holding.{AreLeading, most_followed}
 use Rattle.run_ends.specs.declared.refusals.Refusal.{Refusal}
@@ -37,7 +36,7 @@ pub record HasLeader (w : ℕ) (old : Drive) (cells : List Cell) : Type 0 where
   pub found : FindsLeader w old cells
   pub only : (v : ℕ) (all : List Cell) → RecoversLeader v all old → (w ≡ v) × (cells ≡ all)
   pub sound : (bytes : List ℕ) (fault : OpenFault) → old.bytes ≡ Some bytes → IsInBytes fault
-      → IsLogFault oldest_read most_followed bytes fault → ⊥
+      → IsFault oldest_read None most_followed bytes fault → ⊥
 
 -- the file was attached and its cells were read
 pub record ReadsLeader (file : List ℕ) (w : ℕ) (old new : Drive) (cells : List Cell) : Type 0 where
@@ -49,7 +48,7 @@ pub record ReadsLeader (file : List ℕ) (w : ℕ) (old new : Drive) (cells : Li
 pub record LosesLeader (file : List ℕ) (old new : Drive) (why : Refusal) : Type 0 where
   pub cause : IsLeaderCause old new why
   pub exact :
-      (bytes : List ℕ) (fault : OpenFault) → old.bytes ≡ Some bytes → IsInBytes fault → IsLogFault oldest_read most_followed bytes fault
+      (bytes : List ℕ) (fault : OpenFault) → old.bytes ≡ Some bytes → IsInBytes fault → IsFault oldest_read None most_followed bytes fault
       → (Rose old.faults new.faults → ⊥)
       → (why ≡ log_refusal fault) ⊎ (why ≡ refusal.Memory)
   pub whole : (w : ℕ) (cells : List Cell) → RecoversLeader w cells old → (Rose old.faults new.faults → ⊥) → why ≡ refusal.Memory

@@ -40,7 +40,7 @@ pub record OpensReplica {D : Type 0} (drive : D → Drive) (w : ℕ) (cells : Li
   pub keeps : KeepsTarget w cells old (drive f.disk)
   -- where the bytes are known, nothing is at fault in them, and each cell is the leader's
   pub sound : (bytes : List ℕ) (fault : OpenFault) → old.bytes ≡ Some bytes → 17 < length bytes → IsInBytes fault
-      → IsFault newest w most_held bytes fault → ⊥
+      → IsFault newest (Some w) most_held bytes fault → ⊥
   pub own : (bytes : List ℕ) (cell : ℕ) → old.bytes ≡ Some bytes → IsStrange w cells bytes cell → ⊥
   pub attached : AttachedOne name true old (drive f.disk)
 
@@ -51,7 +51,7 @@ pub record LosesReplica (w : ℕ) (cells : List Cell) (name : List ℕ) (old new
   pub keeps : KeepsTarget w cells old new
   pub exact :
       (bytes : List ℕ) (fault : OpenFault) → old.bytes ≡ Some bytes → 17 < length bytes → IsInBytes fault
-      → IsFault newest w most_held bytes fault → (Rose old.faults new.faults → ⊥)
+      → IsFault newest (Some w) most_held bytes fault → (Rose old.faults new.faults → ⊥)
       → (why ≡ log_refusal fault) ⊎ (why ≡ refusal.Memory)
   pub strange : (bytes : List ℕ) (cell : ℕ) → old.bytes ≡ Some bytes → IsStrange w cells bytes cell → (Rose old.faults new.faults → ⊥)
       → (why ≡ refusal.Strange cell) ⊎ (why ≡ refusal.Memory)

@@ -42,7 +42,7 @@ follow_refusal follow_fault.Memory = refusal.Memory
 
 -- where the bytes are known, they are more than 17, and this is at fault in them for whoever opens a log
 abbrev pub ShowsLogFault : ℕ → Drive → OpenFault → Type 0
-ShowsLogFault w old fault = (bytes : List ℕ) → old.bytes ≡ Some bytes → (17 < length bytes) × IsFault newest w most_held bytes fault
+ShowsLogFault w old fault = (bytes : List ℕ) → old.bytes ≡ Some bytes → (17 < length bytes) × IsFault newest (Some w) most_held bytes fault
 
 -- Why the second file isn't opened: the first of its cells that isn't the leader's, what is first at fault in its bytes, the drive's count rose, or
 -- memory ran out. Whether its bytes are known or not, no version and width of a log that is opened is told, and no cell that can't be.
@@ -188,7 +188,7 @@ pub record PlaysTurns (w : ℕ) (cells : List Cell) (turns : List Turn) (old new
 pub record IsDecidedThere (w : ℕ) (cells : List Cell) (old new : Drive) (status : ℕ) (before after : Output) : Type 0 where
   pub exact :
       (bytes : List ℕ) (fault : OpenFault) → old.bytes ≡ Some bytes → 17 < length bytes → IsInBytes fault
-      → IsFault newest w most_held bytes fault → (Rose old.faults new.faults → ⊥)
+      → IsFault newest (Some w) most_held bytes fault → (Rose old.faults new.faults → ⊥)
       → Refuses (log_refusal fault) status before after ⊎ (status ≡ 9)
   pub strange :
       (bytes : List ℕ) (cell : ℕ) → old.bytes ≡ Some bytes → IsStrange w cells bytes cell → (Rose old.faults new.faults → ⊥)

@@ -1,5 +1,5 @@
 //! The leader's cells: those of the log in the first file.
-ghost use Rattle.std.specs.Prelude.{◌≡◌, ◌⊎◌, ◌∷◌, ◌++◌, ℕ, List, [], Some, Ok, Err, IfOk, IfErr, OnOk, IsOkUnless, MatchResult};
+ghost use Rattle.std.specs.Prelude.{◌≡◌, ◌⊎◌, ◌∷◌, ◌++◌, ℕ, List, [], Some, Ok, Err, IfOk, IfErr, OnOk, IsOkUnless, MatchResult, None};
 ghost use Rattle.std.specs.Result.{IsErrAnd};
 ghost use Rattle.cell_format.specs.declared.cell.Cell.{Cell};
 ghost use Rattle.recovery.specs.declared.seen.OpenFault.{OpenFault};
@@ -7,16 +7,15 @@ ghost use Rattle.recovery.specs.Faults.{IsFault, IsInBytes};
 ghost use Rattle.recovery.specs.Found.{IsFree};
 ghost use Rattle.recovery.specs.Reading.{OnlyReads};
 ghost use Rattle.recovery.specs.Walks.{ComesTo};
-ghost use Rattle.recovery.specs.Wanted.{MayTellLog};
+ghost use Rattle.recovery.specs.Wanted.{MayTell};
 ghost use Rattle.zorder.specs.Width.{IsWidth};
-ghost use Rattle.recovery.specs.Widths.{IsLogFault};
 ghost use Rattle.follower.specs.Holding.{most_followed};
 ghost use Rattle.run_ends.specs.Limits.{oldest_read};
 ghost use Rattle.follow_run.specs.Leading.{FindsLeader, RecoversLeader, ReadsLeader, LosesLeader};
 
 use cell_format::Cell;
 use disk_trait::LogDisk;
-use recovery::{OpenFault, OpenRefused, Walk};
+use recovery::{OpenFault, OpenRefused, Walk, Wanted};
 use run_ends::{Unmade, attach, log_refusal};
 use std::alloc::Global;
 
@@ -56,17 +55,21 @@ pub(crate) fn find_leader<D: LogDisk>(
 fn read_leader<D: LogDisk>(alloc: Global, disk: D) -> Result<Leader<D>, OpenRefused<D>>
     ensures found { IfOk result (λ l. FindsLeader l.width (D.drive disk) l.cells.items) }
     ensures fault { IfErr result (λ e. (bytes : List ℕ) → (D.drive disk).bytes ≡ Some bytes
-        → IsLogFault oldest_read most_followed bytes e.cause) }
-    ensures may { IfErr result (λ e. MayTellLog oldest_read most_followed e.cause) }
+        → IsFault oldest_read None most_followed bytes e.cause) }
+    ensures may { IfErr result (λ e. MayTell oldest_read None most_followed e.cause) }
     ensures exact { (bytes : List ℕ) (fault : OpenFault) → (D.drive disk).bytes ≡ Some bytes → IsInBytes fault
-        → IsLogFault oldest_read most_followed bytes fault
+        → IsFault oldest_read None most_followed bytes fault
         → IsErrAnd result (λ e. (e.cause ≡ fault) ⊎ IsFree (D.drive disk) (D.drive e.disk) e.cause) }
     ensures whole { (w : ℕ) (cells : List Cell) → RecoversLeader w cells (D.drive disk)
         → IfErr result (λ e. IsFree (D.drive disk) (D.drive e.disk) e.cause) }
     ensures reads { MatchResult result (λ l. OnlyReads {T = Unit {0}} (D.drive disk) (D.drive l.disk) (Ok tt))
         (λ e. OnlyReads {T = Unit {0}} (D.drive disk) (D.drive e.disk) (Err e.cause)) }
 {
-    match Walk::along(alloc, disk, MOST_FOLLOWED) {
+    let wanted = Wanted {
+        width: None,
+        most: MOST_FOLLOWED,
+    };
+    match Walk::along(alloc, disk, wanted) {
         Ok(walk) => walk_leader(alloc, walk),
         Err(refused) => Err(refused),
     }
@@ -78,8 +81,8 @@ fn walk_leader<D: LogDisk>(alloc: Global, mut walk: Walk<D>) -> Result<Leader<D>
     ensures found { IfOk result (λ l. (l.width ≡ walk.reading.replay.width)
         × FindsLeader walk.reading.replay.width (D.drive walk.disk) l.cells.items) }
     ensures fault { IfErr result (λ e. (bytes : List ℕ) → (D.drive walk.disk).bytes ≡ Some bytes
-        → IsFault oldest_read walk.reading.replay.width most_followed bytes e.cause) }
-    ensures may { IfErr result (λ e. MayTellLog oldest_read most_followed e.cause) }
+        → IsFault oldest_read (Some walk.reading.replay.width) most_followed bytes e.cause) }
+    ensures may { IfErr result (λ e. MayTell oldest_read None most_followed e.cause) }
     ensures reads { MatchResult result (λ l. OnlyReads {T = Unit {0}} (D.drive walk.disk) (D.drive l.disk) (Ok tt))
         (λ e. OnlyReads {T = Unit {0}} (D.drive walk.disk) (D.drive e.disk) (Err e.cause)) }
 {
@@ -102,8 +105,8 @@ fn collect<D: LogDisk>(alloc: Global, walk: &mut Walk<D>) -> Result<Vec<Cell>, O
     requires begun { ComesTo walk.old.reading.replay.width most_followed [] (D.drive walk.old.disk) walk.old }
     ensures found { IfOk result (λ cells. FindsLeader walk.old.reading.replay.width (D.drive walk.old.disk) cells.items) }
     ensures fault { IfErr result (λ e. (bytes : List ℕ) → (D.drive walk.old.disk).bytes ≡ Some bytes
-        → IsFault oldest_read walk.old.reading.replay.width most_followed bytes e) }
-    ensures may { IfErr result (MayTellLog oldest_read most_followed) }
+        → IsFault oldest_read (Some walk.old.reading.replay.width) most_followed bytes e) }
+    ensures may { IfErr result (MayTell oldest_read None most_followed) }
     ensures reads { OnlyReads (D.drive walk.old.disk) (D.drive walk.new.disk) result }
 {
     let mut cells = Vec::new(alloc);

@@ -31,7 +31,7 @@ only_read-trans a b c first second = record {
 }
 
 -- what a walk tells behind its head may be told of a log of the newest version
-behind_may : (w number : ℕ) (e : OpenFault) → IsBehind most_held number e → MayTell newest w most_held e
+behind_may : (w number : ℕ) (e : OpenFault) → IsBehind most_held number e → MayTell newest (Some w) most_held e
 behind_may w number open_fault.NotLog is = absurd is
 behind_may w number (open_fault.OldLog version width) is = absurd is
 behind_may w number (open_fault.Damaged n why) is = omega (arith, is.0, is.1)
@@ -40,7 +40,7 @@ behind_may w number open_fault.Memory is = tt
 behind_may w number (open_fault.TooLong limit) is = is.0
 
 -- and what may be told of a log of either version
-newest_may : (w : ℕ) (e : OpenFault) → MayTell 1 w most_held e → MayTell newest w most_held e
+newest_may : (w : ℕ) (e : OpenFault) → MayTell 1 (Some w) most_held e → MayTell newest (Some w) most_held e
 newest_may w open_fault.NotLog is = tt
 newest_may w (open_fault.OldLog version width) is =
     ⊎_elim (λ old. inl (λ (wanted : IsWanted newest version). old (record { least = omega (arith, wanted.least); most = wanted.most }))) (λ other. inr other) is
@@ -81,7 +81,7 @@ module _ {D : Type 0} (w : ℕ) (cells : List Cell) (start now next : Drive) (wa
     }
 
 -- what is at fault for whoever reads both versions is so for whoever reads the newest, where that is the version
-newest_fault : (w : ℕ) (bytes : List ℕ) (e : OpenFault) → slice_index bytes 8 ≡ newest → IsFault 1 w most_held bytes e → IsFault newest w most_held bytes e
+newest_fault : (w : ℕ) (bytes : List ℕ) (e : OpenFault) → slice_index bytes 8 ≡ newest → IsFault 1 (Some w) most_held bytes e → IsFault newest (Some w) most_held bytes e
 newest_fault w bytes open_fault.NotLog named is = is
 newest_fault w bytes (open_fault.OldLog version width) named is = record {
   is_log = is.is_log;
@@ -116,7 +116,7 @@ newest_fault w bytes open_fault.Disk named is = tt
 newest_fault w bytes open_fault.Memory named is = tt
 
 -- and where it's of the head, whatever the version is
-head_fault : (w : ℕ) (bytes : List ℕ) (e : OpenFault) → IsOfHead e → IsFault 1 w most_held bytes e → IsFault newest w most_held bytes e
+head_fault : (w : ℕ) (bytes : List ℕ) (e : OpenFault) → IsOfHead e → IsFault 1 (Some w) most_held bytes e → IsFault newest (Some w) most_held bytes e
 head_fault w bytes open_fault.NotLog head is = is
 head_fault w bytes (open_fault.OldLog version width) head is = record {
   is_log = is.is_log;
@@ -129,7 +129,7 @@ head_fault w bytes (open_fault.TooLong limit) head is = absurd head
 head_fault w bytes open_fault.Disk head is = tt
 head_fault w bytes open_fault.Memory head is = tt
 
-pub not_started : (w : ℕ) (a b : Drive) (e : OpenFault) → ((bytes : List ℕ) → a.bytes ≡ Some bytes → IsFault 1 w most_held bytes e) → IsOfHead e → MayTell 1 w most_held e → OnlyReads {T = Unit {0}} a b (Err e) → RefusesCompare w a b e
+pub not_started : (w : ℕ) (a b : Drive) (e : OpenFault) → ((bytes : List ℕ) → a.bytes ≡ Some bytes → IsFault 1 (Some w) most_held bytes e) → IsOfHead e → MayTell 1 (Some w) most_held e → OnlyReads {T = Unit {0}} a b (Err e) → RefusesCompare w a b e
 not_started w a b e fault head may reads = record {
   cause = λ bytes told. head_fault w bytes e head (fault bytes told);
   may = newest_may w e may;
@@ -142,7 +142,7 @@ not_started w a b e fault head may reads = record {
 
 -- a log of an older version, of which these cells were walked
 old_log : {D : Type 0} (w version : ℕ) (own : List Cell) (drive : Drive) (walk : WalkView D) (bytes : List ℕ) → ComesTo w most_held own drive walk → drive.bytes ≡ Some bytes → 17 < length bytes
-    → version ≡ slice_index bytes 8 → version < newest → IsOldLog newest w bytes version w
+    → version ≡ slice_index bytes 8 → version < newest → IsOldLog newest (Some w) bytes version w
 old_log w version own drive walk bytes came told long named older =
     let (len, more, begins) = came.read.begins bytes told in
     let tail : List ℕ = walk.reading.rest ++ more in
@@ -180,8 +180,8 @@ module _ {D : Type 0} (drive : D → Drive) (w : ℕ) (cells : List Cell) (a : D
   came_at (Ok tally) ok err = (ok.own, subst (λ (v : ℕ). ComesTo v most_held ok.own (drive walk.disk) walk) begins.width ok.came)
   came_at (Err e) ok err = (err.own, subst (λ (v : ℕ). ComesTo v most_held err.own (drive walk.disk) walk) begins.width err.came)
 
-  fault_at : (e : OpenFault) → result ≡ Err e → (bytes : List ℕ) → a.bytes ≡ Some bytes → IsFault 1 w most_held bytes e
-  fault_at e is bytes told = subst (λ (v : ℕ). IsFault 1 v most_held bytes e) begins.width ((subst (λ (r : Result Tally OpenFault). IfErr r (StopsCounting first.reading.replay.width (drive first.disk) (drive walk.disk) walk)) is failed).cause bytes (start.stays.bytes ∙ told))
+  fault_at : (e : OpenFault) → result ≡ Err e → (bytes : List ℕ) → a.bytes ≡ Some bytes → IsFault 1 (Some w) most_held bytes e
+  fault_at e is bytes told = subst (λ (v : ℕ). IsFault 1 (Some v) most_held bytes e) begins.width ((subst (λ (r : Result Tally OpenFault). IfErr r (StopsCounting first.reading.replay.width (drive first.disk) (drive walk.disk) walk)) is failed).cause bytes (start.stays.bytes ∙ told))
 
   version_is : (bytes : List ℕ) → a.bytes ≡ Some bytes → version ≡ slice_index bytes 8
   version_is bytes told = let (own, came) = came_at result done failed in named w most_held own bytes came (now_told bytes told)
@@ -207,18 +207,18 @@ module _ {D : Type 0} (drive : D → Drive) (w : ℕ) (cells : List Cell) (a : D
       })
 
   -- what is told of a log that isn't opened
-  told_cause : (e : OpenFault) → IsJudged version w result (Err e) → (bytes : List ℕ) → a.bytes ≡ Some bytes → IsFault newest w most_held bytes e
+  told_cause : (e : OpenFault) → IsJudged version w result (Err e) → (bytes : List ℕ) → a.bytes ≡ Some bytes → IsFault newest (Some w) most_held bytes e
   told_cause e (inl passed) bytes told =
-      ⊎_elim (λ new. newest_fault w bytes e (sym (version_is bytes told) ∙ new) (fault_at e passed.0 bytes told)) (λ drives. subst (IsFault newest w most_held bytes) (sym drives) tt) passed.1
+      ⊎_elim (λ new. newest_fault w bytes e (sym (version_is bytes told) ∙ new) (fault_at e passed.0 bytes told)) (λ drives. subst (IsFault newest (Some w) most_held bytes) (sym drives) tt) passed.1
   told_cause e (inr old) bytes told =
       let (own, came) = came_at result done failed in
-      subst (IsFault newest w most_held bytes) (sym old.0) (old_log w version own (drive walk.disk) walk bytes came (now_told bytes told) (long bytes told) (version_is bytes told) old.1)
+      subst (IsFault newest (Some w) most_held bytes) (sym old.0) (old_log w version own (drive walk.disk) walk bytes came (now_told bytes told) (long bytes told) (version_is bytes told) old.1)
 
-  told_may : (e : OpenFault) → IsJudged version w result (Err e) → MayTell newest w most_held e
+  told_may : (e : OpenFault) → IsJudged version w result (Err e) → MayTell newest (Some w) most_held e
   told_may e (inl passed) =
-      subst (λ (v : ℕ). MayTell newest v most_held e) begins.width
+      subst (λ (v : ℕ). MayTell newest (Some v) most_held e) begins.width
       (subst (λ (r : Result Tally OpenFault). IfErr r (StopsCounting first.reading.replay.width (drive first.disk) (drive walk.disk) walk)) passed.0 failed).may
-  told_may e (inr old) = subst (MayTell newest w most_held) (sym old.0) (inl (λ (wanted : IsWanted newest version). omega (arith, wanted.least, old.1)))
+  told_may e (inr old) = subst (MayTell newest (Some w) most_held) (sym old.0) (inl (λ (wanted : IsWanted newest version). omega (arith, wanted.least, old.1)))
 
   told_rose : (e : OpenFault) → IsJudged version w result (Err e) → e ≡ open_fault.Disk → Rose a.faults (drive walk.disk).faults
   told_rose e (inl passed) is = omega (arith, start.same, reads.failed (passed.0 ∙ ap (λ f. Err f) is))

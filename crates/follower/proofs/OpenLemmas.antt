@@ -62,7 +62,7 @@ module _ (w : ℕ) (bytes : List ℕ) where
   wanted : (own : List Cell) → IsOpenable w own bytes → IsWanted newest (slice_index bytes 8)
   wanted own log = subst (IsWanted newest) (sym log.version) newest_wanted
 
-  no_fault : (own : List Cell) → IsOpenable w own bytes → (f : OpenFault) → IsInBytes f → IsFault newest w most_held bytes f → ⊥
+  no_fault : (own : List Cell) → IsOpenable w own bytes → (f : OpenFault) → IsInBytes f → IsFault newest (Some w) most_held bytes f → ⊥
   no_fault own log f shown is = recovers_no_fault newest w most_held (lit≤ tt) bytes own f log.recovers (wanted own log) log.few shown is
 
 module _ (w : ℕ) (cells : List Cell) (bytes : List ℕ) where
@@ -87,7 +87,7 @@ module _ (w : ℕ) (cells : List Cell) (bytes : List ℕ) where
       s.other (ap (take (n + 1)) one ∙ take-take (n + 1) held cells (omega (arith, s.there, ap length one, length-take-le held cells log.1)))
 
   -- what is taken has no fault
-  pub taken_no_fault : (held : ℕ) (f : OpenFault) → IsTaken w cells bytes held → 17 < length bytes → IsInBytes f → IsFault newest w most_held bytes f → ⊥
+  pub taken_no_fault : (held : ℕ) (f : OpenFault) → IsTaken w cells bytes held → 17 < length bytes → IsInBytes f → IsFault newest (Some w) most_held bytes f → ⊥
   taken_no_fault held f (inl small) long shown is = omega (arith, small.0, long)
   taken_no_fault held f (inr log) long shown is = no_fault w bytes (take held cells) log.2 f shown is
 
@@ -102,7 +102,7 @@ module _ (w : ℕ) (cells : List Cell) (bytes : List ℕ) where
     failed_log : (e : OpenFault) → RefusesOpen w cells old new (Log e) → e ≡ open_fault.Disk → Rose old.faults new.faults
     failed_log e refused is = refused.rose (ap (λ f. is_drives (Log f)) is)
 
-    pub told_exact : (fault : FollowFault) (f : OpenFault) → RefusesOpen w cells old new fault → IsInBytes f → IsFault newest w most_held bytes f → (fault ≡ Log f) ⊎ IsFree old new fault
+    pub told_exact : (fault : FollowFault) (f : OpenFault) → RefusesOpen w cells old new fault → IsInBytes f → IsFault newest (Some w) most_held bytes f → (fault ≡ Log f) ⊎ IsFree old new fault
     told_exact (Strange n) f refused shown is = let s = refused.cause.1 bytes told in absurd (no_fault w bytes s.own s.openable f shown is)
     told_exact (Log e) f refused shown is =
         ⊎_elim (λ same. inl (ap (λ x. Log x) same)) (λ free. inr (free_log e free))
@@ -319,7 +319,7 @@ module _ (w : ℕ) (cells : List Cell) (a b : Drive) (long : (bytes : List ℕ) 
   pub not_compared : (e : OpenFault) → RefusesCompare w a b e → RefusesOpen w cells a b (Log e)
   not_compared e is = record {
     cause = λ bytes told. (long bytes told, is.cause bytes told);
-    may = λ why told. let same : e ≡ why = cc told in subst (MayTell newest w most_held) same is.may;
+    may = λ why told. let same : e ≡ why = cc told in subst (MayTell newest (Some w) most_held) same is.may;
     rose = λ failed. is.rose (drives_log e failed);
     calm = λ quiet. is.calm (quiet_log e quiet);
     untouched = λ quiet bytes told. untouched_read a b is.stays;

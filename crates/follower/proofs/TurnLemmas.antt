@@ -175,7 +175,7 @@ module _ {D : Type 0} (drive : D → Drive) (cells : List Cell) (old : FollowerV
   held_few : length (take old.state.held cells) ≤ most_cells
   held_few = omega (arith, length-take-le old.state.held cells holds.few, holds.few, holds.leading.few)
 
-  no_fault : (why : OpenFault) → IsInBytes why → ((bytes : List ℕ) → (drive old.disk).bytes ≡ Some bytes → IsFault newest old.width most_cells bytes why) → (bytes : List ℕ) → (drive old.disk).bytes ≡ Some bytes → ⊥
+  no_fault : (why : OpenFault) → IsInBytes why → ((bytes : List ℕ) → (drive old.disk).bytes ≡ Some bytes → IsFault newest (Some old.width) most_cells bytes why) → (bytes : List ℕ) → (drive old.disk).bytes ≡ Some bytes → ⊥
   no_fault why shown is bytes told =
       recovers_no_fault newest old.width most_cells (lit≤ tt) bytes (take old.state.held cells) why (bytes-recover old.width cells holds.leading.legal old.state.held (drive old.disk) bytes (holds.log bytes told) told)
       (subst (IsWanted newest) (sym (log-version old.width (take old.state.held cells) (drive old.disk) bytes (holds.log bytes told) told)) newest_wanted) held_few shown (is bytes told)

@@ -45,8 +45,8 @@ pub record Counts {D : Type 0} (w : ℕ) (cells : List Cell) (old new : Drive) (
 pub record StopsCounting {D : Type 0} (w : ℕ) (old new : Drive) (walk : WalkView D) (fault : OpenFault) : Type 0 where
   pub own : List Cell
   pub came : ComesTo w most_held own new walk
-  pub cause : (bytes : List ℕ) → old.bytes ≡ Some bytes → IsFault 1 w most_held bytes fault
-  pub may : MayTell newest w most_held fault
+  pub cause : (bytes : List ℕ) → old.bytes ≡ Some bytes → IsFault 1 (Some w) most_held bytes fault
+  pub may : MayTell newest (Some w) most_held fault
 
 -- what is told of a log of this version, which is opened in the newest one alone: a drive that failed comes first
 abbrev pub IsJudged : ℕ → ℕ → Result Tally OpenFault → Result Tally OpenFault → Type 0
@@ -72,8 +72,8 @@ pub record Compares (w : ℕ) (cells : List Cell) (old new : Drive) (count same 
 
 -- it wasn't: no log that may be opened stands there, the drive failed, or memory ran out
 pub record RefusesCompare (w : ℕ) (old new : Drive) (fault : OpenFault) : Type 0 where
-  pub cause : (bytes : List ℕ) → old.bytes ≡ Some bytes → IsFault newest w most_held bytes fault
-  pub may : MayTell newest w most_held fault
+  pub cause : (bytes : List ℕ) → old.bytes ≡ Some bytes → IsFault newest (Some w) most_held bytes fault
+  pub may : MayTell newest (Some w) most_held fault
   pub rose : fault ≡ open_fault.Disk → Rose old.faults new.faults
   pub calm : fault ≢ open_fault.Disk → new.faults ≡ old.faults
   pub stays : Stays old new

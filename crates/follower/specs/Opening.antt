@@ -68,7 +68,7 @@ pub record Opens {D : Type 0} (drive : D → Drive) (w : ℕ) (cells : List Cell
 abbrev pub IsOpenCause : ℕ → List Cell → Drive → Drive → FollowFault → Type 0
 IsOpenCause w cells old new (Strange number) =
     (number ≤ length cells) × ((bytes : List ℕ) → old.bytes ≡ Some bytes → IsStrange w cells bytes number)
-IsOpenCause w cells old new (Log fault) = (bytes : List ℕ) → old.bytes ≡ Some bytes → (17 < length bytes) × IsFault newest w most_held bytes fault
+IsOpenCause w cells old new (Log fault) = (bytes : List ℕ) → old.bytes ≡ Some bytes → (17 < length bytes) × IsFault newest (Some w) most_held bytes fault
 IsOpenCause w cells old new (Append cell) = ⊥
 IsOpenCause w cells old new Disk = (bytes : List ℕ) → old.bytes ≡ Some bytes → 17 < length bytes → HasNoMore old.calls new.calls
 IsOpenCause w cells old new Memory = ⊥
@@ -87,7 +87,7 @@ CallsNotToFollow Memory old new = ⊥
 pub record RefusesOpen (w : ℕ) (cells : List Cell) (old new : Drive) (fault : FollowFault) : Type 0 where
   pub cause : IsOpenCause w cells old new fault
   -- whether the bytes are known or not
-  pub may : (why : OpenFault) → fault ≡ Log why → MayTell newest w most_held why
+  pub may : (why : OpenFault) → fault ≡ Log why → MayTell newest (Some w) most_held why
   pub rose : is_drives fault ≡ true → Rose old.faults new.faults
   pub calm : is_drives fault ≡ false → new.faults ≡ old.faults
   pub untouched : is_drives fault ≡ false → (bytes : List ℕ) → old.bytes ≡ Some bytes → IsUntouched old new

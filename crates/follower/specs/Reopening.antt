@@ -33,7 +33,7 @@ pub record Reopens {D : Type 0} (drive : D → Drive) (w count : ℕ) (old : Dri
 abbrev pub IsReopenCause : ℕ → ℕ → Drive → FollowFault → Type 0
 IsReopenCause w count old (Strange number) =
     (number ≤ count) × ((bytes : List ℕ) (own : List Cell) → old.bytes ≡ Some bytes → Recovers w own bytes → length own ≡ count → ⊥)
-IsReopenCause w count old (Log fault) = (bytes : List ℕ) → old.bytes ≡ Some bytes → IsFault newest w most_cells bytes fault
+IsReopenCause w count old (Log fault) = (bytes : List ℕ) → old.bytes ≡ Some bytes → IsFault newest (Some w) most_cells bytes fault
 IsReopenCause w count old _ = ⊥
 
 -- which calls such an opening made: none behind one that failed
@@ -44,7 +44,7 @@ CallsUnopened _ old new = ⊥
 
 pub record RefusesReopen (w count : ℕ) (old new : Drive) (fault : FollowFault) : Type 0 where
   pub cause : IsReopenCause w count old fault
-  pub may : (why : OpenFault) → fault ≡ Log why → MayTell newest w most_cells why
+  pub may : (why : OpenFault) → fault ≡ Log why → MayTell newest (Some w) most_cells why
   pub rose : is_drives fault ≡ true → Rose old.faults new.faults
   pub calm : is_drives fault ≡ false → new.faults ≡ old.faults
   pub untouched : (why : OpenFault) → fault ≡ Log why → why ≢ open_fault.Disk → IsUntouched old new

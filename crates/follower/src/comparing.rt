@@ -10,12 +10,9 @@ ghost use Rattle.follower.specs.Opening.{most_held};
 
 use cell_format::{Cell, encode};
 use disk_trait::LogDisk;
-use recovery::{OpenFault, OpenRefused, Walk, WalkEnd};
+use recovery::{NEWEST, OpenFault, OpenRefused, Walk, WalkEnd};
 use split_log::MOST_CELLS;
 use std::alloc::Global;
-
-/// The version of the logs that are opened: `judged` is proved against `newest`, the one that is appended.
-const NEWEST: u8 = 2;
 
 /// How many cells a log has, and how many of its first ones are the leader's.
 #[derive(Drop)]

@@ -13,12 +13,9 @@ use crate::compacting::{CompactRefused, compact};
 use crate::laws::names_are_short;
 use disk_trait::LogDisk;
 use plain_list::World;
-use recovery::{Leaves, Opened, Seen};
+use recovery::{Leaves, NEWEST, Opened, Seen};
 use split_log::{MOST_CELLS, SplitLog};
 use std::snapshot::Snapshot;
-
-/// The version in which a log is written.
-const NEWEST: u8 = 2;
 
 /// What whoever opens the log finds that `compact` writes of a world and its leaves. There is none where these are more cells than a log
 /// may have.

@@ -1,14 +1,13 @@
 -- What an attach and what follows it come to.
-use Rattle.std.proofs.Common.{◌≡◌, ◌⊎◌, inl, inr, ◌∙◌, ℕ, ◌≤◌, Bool, true, List, [], ◌∷◌, length, Some, is_some, Result, Err, refl, sym, ap, subst, arith}
+use Rattle.std.proofs.Common.{◌≡◌, ◌⊎◌, inl, inr, ◌∙◌, ℕ, ◌≤◌, Bool, true, List, [], ◌∷◌, length, Some, is_some, Result, Err, refl, sym, ap, subst, arith, None}
 use Rattle.std.specs.Prelude.{IfErr, ◌≢◌}
 use Rattle.std.specs.Result.{IsErrAnd}
 use Rattle.disk_trait.specs.Drive.{Drive, Stays, KeepsLaws}
 use Rattle.cell_format.specs.declared.cell.Cell.{Cell}
 use Rattle.recovery.specs.Making.{Makes, IsSmall, KeepsSmall, RefusesInit}
 use Rattle.log_state.specs.Recovers.{Recovers}
-use Rattle.recovery.specs.Faults.{IsInBytes}
+use Rattle.recovery.specs.Faults.{IsFault, RefusesRead}
 use Rattle.zorder.specs.Width.{IsWidth}
-use Rattle.recovery.specs.Widths.{IsLogFault}
 use Rattle.recovery.specs.declared.seen.SeenLog.{SeenLog}
 use Rattle.recovery.specs.Found.{IsFree, IsFound}
 use Rattle.recovery.specs.Reading.{IsBehind, OnlyReads}
@@ -20,13 +19,14 @@ use Rattle.recovery.specs.declared.seen.OpenFault.TheVariants as open_fault
 use Rattle.disk_trait.proofs.Calls.{still-made}
 use Rattle.recovery.specs.Calls.{StopsAtFault}
 use Rattle.recovery.proofs.CallLemmas.{stops-then, well-none}
+use Rattle.recovery.proofs.Exclusive.{recovers_wanted}
 use Rattle.recovery.proofs.OnlyReading.{rose-earlier, stays-trans}
 use Rattle.recovery.proofs.OpeningLemmas.{leaves-trans, leaves-stays}
 use Rattle.log_compact.proofs.OnWay.{failed-making}
 use Rattle.run_ends.specs.declared.refusals.Refusal.{Refusal}
 use Rattle.run_ends.specs.Limits.{most_inspected}
 use Rattle.run_ends.specs.Attaching.{RefusesAttach}
-use Rattle.run_ends.specs.LogFaults.{MayTellLog, log_refusal}
+use Rattle.run_ends.specs.LogFaults.{MayTell, log_refusal}
 use Rattle.log_run.specs.Checking.{IsCheckingCause, IsDecidedBy}
 use Rattle.log_run.specs.Making.{IsMakingCause, LeavesFile, making_refusal}
 use Rattle.run_ends.specs.Status.{status_of}
@@ -43,16 +43,13 @@ free-later a b c fault later (inr rose) = inr (rose-earlier a.faults b.faults c.
 
 -- a log in which something is at fault
 pub checking-after : (a b c : Drive) (result : Result SeenLog OpenFault) (fault : OpenFault) → result ≡ Err fault → Stays a b → a.faults ≤ b.faults
-    → ((bytes : List ℕ) → b.bytes ≡ Some bytes → IsLogFault 1 most_inspected bytes fault) → MayTellLog 1 most_inspected fault → OnlyReads b c result → IsCheckingCause a c (log_refusal fault)
+    → ((bytes : List ℕ) → b.bytes ≡ Some bytes → IsFault 1 None most_inspected bytes fault) → MayTell 1 None most_inspected fault → OnlyReads b c result → IsCheckingCause a c (log_refusal fault)
 checking-after a b c result fault is stays later wrong may reads = reading-after 1 most_inspected a b c fault stays later wrong may (λ disk. reads.failed (is ∙ ap (λ (e : OpenFault). Err e) disk))
 
-pub decided-err : (a b c : Drive) (why : OpenFault) (result : Result SeenLog OpenFault) → result ≡ Err why → Stays a b → a.faults ≤ b.faults
-    → ((bytes : List ℕ) (fault : OpenFault) → b.bytes ≡ Some bytes → IsInBytes fault → IsLogFault 1 most_inspected bytes fault → IsErrAnd result (λ e. (e ≡ fault) ⊎ IsFree b c e))
-    → ((w : ℕ) (bytes : List ℕ) (cells : List Cell) → IsWidth w → b.bytes ≡ Some bytes → Recovers w cells bytes → length cells ≤ most_inspected → IfErr result (IsFree b c)) → IsDecidedBy {T = SeenLog} most_inspected a c (Err (log_refusal why))
-decided-err a b c why result is stays later exact whole = record {
-  exact = λ bytes fault told shown wrong calm.
-      calm-named a b c why fault later calm (subst (λ (r : Result SeenLog OpenFault). IsErrAnd r (λ e. (e ≡ fault) ⊎ IsFree b c e)) is (exact bytes fault (stays.bytes ∙ told) shown wrong));
-  whole = λ bytes w cells told known text few calm. calm-free a b c why later calm (subst (λ (r : Result SeenLog OpenFault). IfErr r (IsFree b c)) is (whole w bytes cells known (stays.bytes ∙ told) text few));
+pub decided-err : (a b c : Drive) (why : OpenFault) → Stays a b → a.faults ≤ b.faults → RefusesRead 1 None most_inspected b c why → IsDecidedBy {T = SeenLog} most_inspected a c (Err (log_refusal why))
+decided-err a b c why stays later refused = record {
+  exact = λ bytes fault told shown wrong calm. calm-named a b c why fault later calm (refused.exact bytes fault (stays.bytes ∙ told) shown wrong);
+  whole = λ bytes w cells told known text few calm. calm-free a b c why later calm (refused.whole w bytes cells known known (stays.bytes ∙ told) text (recovers_wanted w cells bytes text) few);
 }
 
 -- what an attach leaves of a file, and what the making behind it does
@@ -110,7 +107,7 @@ calm-read a b c open_fault.Memory same calm other = calm (λ e. cc e) ∙ same
 calm-read a b c (open_fault.TooLong limit) same calm other = calm (λ e. cc e) ∙ same
 
 -- what is told behind so many cells of a log may be
-pub may-behind : (oldest most number : ℕ) (e : OpenFault) → IsBehind most number e → MayTellLog oldest most e
+pub may-behind : (oldest most number : ℕ) (e : OpenFault) → IsBehind most number e → MayTell oldest None most e
 may-behind oldest most number open_fault.NotLog behind = absurd behind
 may-behind oldest most number (open_fault.OldLog version width) behind = absurd behind
 may-behind oldest most number (open_fault.Damaged n why) behind = omega (arith, behind.0, behind.1)

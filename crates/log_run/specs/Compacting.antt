@@ -7,9 +7,8 @@ use Rattle.plain_list.specs.World.{World}
 use Rattle.cell_format.specs.declared.cell.Cell.{Cell}
 use Rattle.log_state.specs.Recovers.{Recovers, state_of}
 use Rattle.recovery.specs.LogText.{IsLog}
-use Rattle.recovery.specs.Faults.{IsInBytes}
+use Rattle.recovery.specs.Faults.{IsInBytes, IsFault}
 use Rattle.zorder.specs.Width.{IsWidth}
-use Rattle.recovery.specs.Widths.{IsLogFault}
 use Rattle.recovery.specs.Calls.{StopsAtFault}
 use Rattle.recovery.specs.Making.{IsSmall}
 use Rattle.recovery.specs.declared.seen.OpenFault.{OpenFault}
@@ -102,7 +101,7 @@ pub record RecoversFew (drive : Drive) (cells : List Cell) : Type 0 where
 -- cells, status 10 comes exactly where the second file has more than 17 bytes, and else status 0.
 pub record IsDecidedAnew {D : Type 0} (old new : Targets D) (status : ℕ) : Type 0 where
   pub exact : (bytes : List ℕ) (fault : OpenFault) → old.drive.bytes ≡ Some bytes → IsInBytes fault
-      → IsLogFault oldest_read most_inspected bytes fault → (Rose old.drive.faults new.drive.faults → ⊥)
+      → IsFault oldest_read None most_inspected bytes fault → (Rose old.drive.faults new.drive.faults → ⊥)
       → Refuses (log_refusal fault) status old.output new.output ⊎ (status ≡ 9)
   pub recovers : status ≡ 10 → (bytes : List ℕ) → old.drive.bytes ≡ Some bytes → (cells : List Cell) × RecoversFew old.drive cells
   pub long : status ≡ 10 → (bytes : List ℕ) → old.other_drive.bytes ≡ Some bytes → 17 < length bytes

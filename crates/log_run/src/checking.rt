@@ -9,7 +9,7 @@ ghost use Rattle.log_run.specs.Checking.{HasReadLog, HasReadUnless, IsCheckingCa
 
 use disk_trait::LogDisk;
 use io_edge::Sink;
-use recovery::{Seen, SeenLog, inspect_log};
+use recovery::{Seen, SeenLog, Wanted, inspect_log};
 use run_ends::{
     Drives, Ended, LogCounts, MOST_INSPECTED, Refusal, attach, log_refusal, put_refusal,
     without_rows, write_counts, written,
@@ -53,7 +53,11 @@ pub(crate) fn find<D: LogDisk>(alloc: Global, file: &str, disk: &mut D) -> Resul
     if let Err(why) = attach(alloc, file, false, disk) {
         return Err(why);
     }
-    match inspect_log(alloc, disk, MOST_INSPECTED) {
+    let wanted = Wanted {
+        width: None,
+        most: MOST_INSPECTED,
+    };
+    match inspect_log(alloc, disk, wanted) {
         Ok(found) => Ok(found),
         Err(fault) => Err(log_refusal(fault)),
     }

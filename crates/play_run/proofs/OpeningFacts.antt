@@ -1,21 +1,22 @@
 -- What the opening of a log comes to.
-use Rattle.std.proofs.Common.{◌≡◌, ◌⊎◌, inl, inr, ⊎_elim, ◌∙◌, ℕ, ◌≤◌, false, List, length, Some, refl, sym, ap, subst, arith}
+use Rattle.std.proofs.Common.{◌≡◌, ◌⊎◌, inl, inr, ⊎_elim, ◌∙◌, ℕ, ◌≤◌, false, List, length, Some, refl, sym, ap, subst, arith, None}
 use Rattle.std.specs.Prelude.{slice_index}
 use Rattle.disk_trait.specs.Drive.{Drive, AttachedOne, KeepsLaws, Stays}
 use Rattle.disk_trait.proofs.Calls.{attached-still}
 use Rattle.cell_format.specs.declared.cell.Cell.{Cell}
 use Rattle.cell_format.specs.Spelling.{newest}
 use Rattle.log_state.specs.Recovers.{Recovers}
-use Rattle.recovery.specs.Faults.{IsInBytes}
+use Rattle.recovery.specs.Faults.{IsInBytes, IsFault}
 use Rattle.recovery.specs.Found.{IsFound, IsFree, IsNewest}
 use Rattle.zorder.specs.Width.{IsWidth}
-use Rattle.recovery.specs.Widths.{HasWidth, IsLogFault}
-use Rattle.recovery.specs.Opening.{KeepsCells, KeepsNewest, HasNoLog, IsUntouched, KeepsStanding, RefusesLog}
+use Rattle.recovery.specs.Widths.{HasWidth}
+use Rattle.recovery.specs.Opening.{KeepsCells, KeepsNewest, HasNoLog, IsUntouched, KeepsStanding, RefusesWanted}
 use Rattle.recovery.specs.LogText.{IsLog}
 use Rattle.recovery.specs.declared.seen.Seen.{Seen}
 use Rattle.recovery.specs.declared.seen.OpenFault.{OpenFault}
 use Rattle.recovery.proofs.CallLemmas.{well-none, well-then, stops-then, stops-refused}
 use Rattle.recovery.proofs.OpeningLemmas.{leaves-trans, leaves-stays}
+use Rattle.recovery.proofs.WantedLemmas.{newest_wanted}
 use Rattle.recovery.proofs.WidthLemmas.{recovers_width, same_width}
 use Rattle.run_ends.specs.declared.refusals.Refusal.{Refusal}
 use Rattle.run_ends.specs.declared.refusals.Refusal.TheVariants as refusal
@@ -57,18 +58,15 @@ named-newest w drive seen bytes found told =
     sym (found.named bytes told) ∙ version
 
 -- a log isn't opened whose file was attached
-pub log-refused : (file : List ℕ) (a b c : Drive) (why : OpenFault) → KeepsLaws a → Attaches file false a b → RefusesLog most_played b c why → KeepsStanding b c
-    → ((bytes : List ℕ) (fault : OpenFault) → b.bytes ≡ Some bytes → IsInBytes fault → IsLogFault newest most_played bytes fault → (why ≡ fault) ⊎ IsFree b c why)
-    → ((w : ℕ) (bytes : List ℕ) (cells : List Cell) → IsWidth w → b.bytes ≡ Some bytes → Recovers w cells bytes → slice_index bytes 8 ≡ newest → length cells ≤ most_played → IsFree b c why)
-    → IsNotOpened file a c (log_refusal why)
-log-refused file a b c why laws at refused keeps exact whole =
+pub log-refused : (file : List ℕ) (a b c : Drive) (why : OpenFault) → KeepsLaws a → Attaches file false a b → RefusesWanted None most_played b c why → KeepsStanding b c → IsNotOpened file a c (log_refusal why)
+log-refused file a b c why laws at refused keeps =
     let stays = at.stays in
     let later : a.faults ≤ b.faults = omega (arith, at.calm) in
     let leaves = refused.leaves in
     record {
-      cause = reading-after oldest_played most_played a b c why stays later refused.shows refused.may refused.rose;
-      exact = λ bytes fault told shown is calm. calm-named a b c why fault later calm (exact bytes fault (stays.bytes ∙ told) shown is);
-      whole = λ good. calm-free a b c why later good.calm (whole good.width good.bytes good.first good.known (stays.bytes ∙ good.told) good.recovers good.version good.few);
+      cause = reading-after oldest_played most_played a b c why stays later refused.fault.shows refused.fault.may refused.fault.rose;
+      exact = λ bytes fault told shown is calm. calm-named a b c why fault later calm (refused.fault.exact bytes fault (stays.bytes ∙ told) shown is);
+      whole = λ good. calm-free a b c why later good.calm (refused.fault.whole good.width good.bytes good.first good.known good.known (stays.bytes ∙ good.told) good.recovers (newest_wanted _ good.version) good.few);
       keeps = λ w bytes told has. keeps-cells-after w a b c laws stays (keeps.cells w);
       untouched = λ bytes told none. untouched-after a b c stays (leaves.no_log bytes (stays.bytes ∙ told) none);
       stands = λ other w cells. let left = untouched-after a b c stays (leaves.unfailed (λ disk. other (ap log_refusal disk))) in holds-same w cells a c left.bytes left.images;

@@ -9,9 +9,9 @@ use Rattle.cell_format.specs.declared.cell.Cell.{Cell}
 use Rattle.cell_format.specs.Spelling.{newest}
 use Rattle.recovery.specs.declared.seen.OpenFault.{OpenFault}
 use Rattle.log_state.specs.Recovers.{Recovers}
-use Rattle.recovery.specs.Faults.{IsInBytes}
+use Rattle.recovery.specs.Faults.{IsInBytes, IsFault}
 use Rattle.zorder.specs.Width.{IsWidth}
-use Rattle.recovery.specs.Widths.{HasWidth, IsLogFault}
+use Rattle.recovery.specs.Widths.{HasWidth}
 use Rattle.recovery.specs.Calls.{StopsAtFault}
 use Rattle.recovery.specs.Opening.{KeepsCells, KeepsNewest, HasNoLog, IsUntouched}
 use Rattle.csv_rows.specs.declared.rows.InRow.{InRow}
@@ -54,7 +54,7 @@ pub record IsGoodLog (old new : Drive) : Type 0 where
 -- and no device call was made behind one that failed.
 pub record IsNotOpened (file : List ℕ) (old new : Drive) (why : Refusal) : Type 0 where
   pub cause : IsReadingCause oldest_played most_played old new why
-  pub exact : (bytes : List ℕ) (fault : OpenFault) → old.bytes ≡ Some bytes → IsInBytes fault → IsLogFault oldest_played most_played bytes fault → (Rose old.faults new.faults → ⊥)
+  pub exact : (bytes : List ℕ) (fault : OpenFault) → old.bytes ≡ Some bytes → IsInBytes fault → IsFault oldest_played None most_played bytes fault → (Rose old.faults new.faults → ⊥)
       → (why ≡ log_refusal fault) ⊎ (why ≡ refusal.Memory)
   pub whole : IsGoodLog old new → why ≡ refusal.Memory
   pub keeps : (w : ℕ) (bytes : List ℕ) → old.bytes ≡ Some bytes → HasWidth w bytes → KeepsCells w old new
@@ -102,7 +102,7 @@ EndsRows Cause status old new = ((status ≡ 0) × (new.faults ≡ old.faults)) 
 -- the drive of a play over no log is left as it was; over a log its bytes showed no fault
 abbrev pub HasBook : {D : Type 0} → Option (List ℕ) → Targets D → Targets D → Type 0
 HasBook None old new = new.disk ≡ old.disk
-HasBook (Some file) old new = (bytes : List ℕ) (fault : OpenFault) → old.drive.bytes ≡ Some bytes → IsInBytes fault → IsLogFault oldest_played most_played bytes fault → ⊥
+HasBook (Some file) old new = (bytes : List ℕ) (fault : OpenFault) → old.drive.bytes ≡ Some bytes → IsInBytes fault → IsFault oldest_played None most_played bytes fault → ⊥
 
 -- over a log its file is attached, once, and none is made
 abbrev pub IsAttached : Option (List ℕ) → Drive → Drive → Type 0
@@ -150,7 +150,7 @@ Goes log size before after old new status h = IsInputUnread before after old new
 -- over a log a fault that its bytes show gives its refusal's status, unless the drive's count rose or memory ran out
 abbrev pub FollowsLog : Option (List ℕ) → Drive → Drive → ℕ → Type 0
 FollowsLog None old new status = ⊤
-FollowsLog (Some file) old new status = (bytes : List ℕ) (fault : OpenFault) → old.bytes ≡ Some bytes → IsInBytes fault → IsLogFault oldest_played most_played bytes fault → (Rose old.faults new.faults → ⊥)
+FollowsLog (Some file) old new status = (bytes : List ℕ) (fault : OpenFault) → old.bytes ≡ Some bytes → IsInBytes fault → IsFault oldest_played None most_played bytes fault → (Rose old.faults new.faults → ⊥)
     → (status ≡ status_of (log_refusal fault)) ⊎ (status ≡ 9)
 
 -- there is no log, or a good one

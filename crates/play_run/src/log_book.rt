@@ -10,7 +10,7 @@ use commit_book::Book;
 use disk_trait::LogDisk;
 use index_layer::Index;
 use plain_list::World;
-use recovery::{OpenRefused, Opened, OpenedLog, open_log};
+use recovery::{OpenRefused, Opened, OpenedLog, Wanted, open_log};
 use run_ends::{MOST_PLAYED, Refusal, Unmade, attach, log_refusal};
 use std::alloc::Global;
 
@@ -27,7 +27,11 @@ pub(crate) fn open_file<D: LogDisk>(
     if let Err(why) = attach(alloc, file, false, &mut disk) {
         return Err(Unmade { disk, why });
     }
-    match open_log(alloc, disk, MOST_PLAYED) {
+    let wanted = Wanted {
+        width: None,
+        most: MOST_PLAYED,
+    };
+    match open_log(alloc, disk, wanted) {
         Ok(log) => Ok(log),
         Err(OpenRefused { disk, cause }) => {
             let why = log_refusal(cause);

@@ -1,5 +1,5 @@
 -- Bytes tell one thing at most: the cells that they recover to, or one fault.
-use Rattle.std.proofs.Common.{◌≡◌, ℕ, ◌+◌, ◌<◌, ◌≤◌, true, false, ◌⊎◌, inl, inr, ⊎_elim, List, [], ◌∷◌, ◌++◌, length, take, drop, refl, sym, ◌∙◌, ap, subst, arith, append_assoc, length-append}
+use Rattle.std.proofs.Common.{◌≡◌, ℕ, ◌+◌, ◌<◌, ◌≤◌, true, false, ◌⊎◌, inl, inr, ⊎_elim, Some, List, [], ◌∷◌, ◌++◌, length, take, drop, refl, sym, ◌∙◌, ap, subst, arith, append_assoc, length-append}
 use Rattle.std.specs.Prelude.{slice_index, Result, Ok, Err}
 use Rattle.std.specs.Result.{IsErrAnd}
 use Rattle.causes.specs.Causes.{Rose}
@@ -199,7 +199,7 @@ has_header v w most cells tail bytes end = record {
   long = omega (arith, (behind_cells v w cells tail bytes end.begins).1, end.some);
 }
 
-pub header_is_new : (oldest v w : ℕ) (bytes : List ℕ) (version width : ℕ) → IsWanted oldest v → HasHeader v w bytes → IsOldLog oldest w bytes version width → ⊥
+pub header_is_new : (oldest v w : ℕ) (bytes : List ℕ) (version width : ℕ) → IsWanted oldest v → HasHeader v w bytes → IsOldLog oldest (Some w) bytes version width → ⊥
 header_is_new oldest v w bytes version width wanted has old = ⊎_elim
     (λ other. other (subst (IsWanted oldest) (sym (old.version_is ∙ ap (λ (l : List ℕ). slice_index l 8) has.parts ∙ (header_bytes v w has.rest).0)) wanted))
     (λ other. other (old.width_is ∙ ap (λ (l : List ℕ). slice_index l 9) has.parts ∙ (header_bytes v w has.rest).1)) old.other
@@ -261,7 +261,7 @@ module _ (oldest w most : ℕ) (least : 1 ≤ oldest) (bytes : List ℕ) where
   long_header l = has_header l.version w most l.cells l.tail bytes (long_end l)
 
   -- bytes that recover to few enough cells show no fault
-  pub recovers_no_fault : (cells : List Cell) (e : OpenFault) → Recovers w cells bytes → IsWanted oldest (slice_index bytes 8) → length cells ≤ most → IsInBytes e → IsFault oldest w most bytes e → ⊥
+  pub recovers_no_fault : (cells : List Cell) (e : OpenFault) → Recovers w cells bytes → IsWanted oldest (slice_index bytes 8) → length cells ≤ most → IsInBytes e → IsFault oldest (Some w) most bytes e → ⊥
   recovers_no_fault cells fault.NotLog recovers wanted few shown holds =
       header_is_log recovers.version w bytes (has_header recovers.version w most cells _ bytes (recovers_end w most cells bytes recovers few)) holds
   recovers_no_fault cells (fault.OldLog version width) recovers wanted few shown holds =
@@ -289,7 +289,7 @@ module _ (oldest w most : ℕ) (least : 1 ≤ oldest) (bytes : List ℕ) where
       omega (arith, ap length same.0, d.place, d.few, l.place)
 
   -- bytes show one fault at most
-  pub one_fault : (e f : OpenFault) → IsInBytes e → IsInBytes f → IsFault oldest w most bytes e → IsFault oldest w most bytes f → e ≡ f
+  pub one_fault : (e f : OpenFault) → IsInBytes e → IsInBytes f → IsFault oldest (Some w) most bytes e → IsFault oldest (Some w) most bytes f → e ≡ f
   one_fault fault.NotLog fault.NotLog se sf a b = refl
   one_fault fault.NotLog (fault.OldLog version width) se sf a b = absurd (b.is_log a)
   one_fault fault.NotLog (fault.Damaged n why) se sf a b = absurd (header_is_log b.version w bytes (damaged_header n why b) a)
@@ -319,7 +319,7 @@ module _ (oldest w most : ℕ) (least : 1 ≤ oldest) (bytes : List ℕ) where
 
   module _ (old new : Drive) where
     -- an answer that isn't free is the one fault, or tells it
-    pub told_fault : (e f : OpenFault) → IsFault oldest w most bytes e → (e ≡ fault.Disk → Rose old.faults new.faults) → IsInBytes f → IsFault oldest w most bytes f → (e ≡ f) ⊎ IsFree old new e
+    pub told_fault : (e f : OpenFault) → IsFault oldest (Some w) most bytes e → (e ≡ fault.Disk → Rose old.faults new.faults) → IsInBytes f → IsFault oldest (Some w) most bytes f → (e ≡ f) ⊎ IsFree old new e
     told_fault fault.Disk f holds rose shown is = inr (inr (rose refl))
     told_fault fault.Memory f holds rose shown is = inr (inl refl)
     told_fault fault.NotLog f holds rose shown is = inl (one_fault fault.NotLog f tt shown holds is)
@@ -327,7 +327,7 @@ module _ (oldest w most : ℕ) (least : 1 ≤ oldest) (bytes : List ℕ) where
     told_fault (fault.Damaged n why) f holds rose shown is = inl (one_fault (fault.Damaged n why) f tt shown holds is)
     told_fault (fault.TooLong limit) f holds rose shown is = inl (one_fault (fault.TooLong limit) f tt shown holds is)
 
-    pub told_free : (e : OpenFault) (cells : List Cell) → IsFault oldest w most bytes e → (e ≡ fault.Disk → Rose old.faults new.faults) → Recovers w cells bytes → IsWanted oldest (slice_index bytes 8) → length cells ≤ most → IsFree old new e
+    pub told_free : (e : OpenFault) (cells : List Cell) → IsFault oldest (Some w) most bytes e → (e ≡ fault.Disk → Rose old.faults new.faults) → Recovers w cells bytes → IsWanted oldest (slice_index bytes 8) → length cells ≤ most → IsFree old new e
     told_free fault.Disk cells holds rose recovers wanted few = inr (rose refl)
     told_free fault.Memory cells holds rose recovers wanted few = inl refl
     told_free fault.NotLog cells holds rose recovers wanted few = absurd (recovers_no_fault cells fault.NotLog recovers wanted few tt holds)

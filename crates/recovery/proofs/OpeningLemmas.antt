@@ -19,7 +19,7 @@ use Rattle.log_state.specs.Recovers.{Recovers}
 use Rattle.recovery.specs.declared.seen.OpenFault.{OpenFault}
 use Rattle.recovery.specs.declared.seen.OpenFault.TheVariants.{Disk}
 use Rattle.recovery.specs.Found.{IsWanted, IsNewest}
-use Rattle.recovery.specs.Opening.{CallsToCut, CallsToOpen, CallsRefused, HasNoLog, HasNoLogFor, LeavesUnopenedFor, IsReady, IsUntouched, KeepsStanding, KeepsNewest}
+use Rattle.recovery.specs.Opening.{CallsToCut, CallsToOpen, CallsRefused, HasNoLog, HasNoLogFor, LeavesUnopened, IsReady, IsUntouched, KeepsStanding, KeepsNewest}
 use Rattle.recovery.specs.Reading.{IsFoundIn, IsFoundFor}
 use Rattle.recovery.specs.Wanted.{IsWidthFor}
 use Rattle.recovery.specs.Widths.{IsWidthOf}
@@ -205,7 +205,7 @@ cut_refused a b c d first still (inr at_sync) =
     record { other = λ other. absurd (other refl); disk = inr (2, record { few = lit≤ tt; calls = made-then (true ∷ []) (true ∷ false ∷ []) a b d first (still-made (true ∷ false ∷ []) b c d still at_sync) }) }
 
 -- an opening that is refused at its sync, at what was read, and at the cut
-pub refused_sync : {T : Type 0} (wanted : Option ℕ) (most : ℕ) (a b : Drive) (result : Result T DiskFault) → KeepsNewest a b → Syncs a b result → Made (false ∷ []) a b → SameFile a b → LeavesUnopenedFor wanted most a b Disk
+pub refused_sync : {T : Type 0} (wanted : Option ℕ) (most : ℕ) (a b : Drive) (result : Result T DiskFault) → KeepsNewest a b → Syncs a b result → Made (false ∷ []) a b → SameFile a b → LeavesUnopened wanted most a b Disk
 refused_sync wanted most a b result kept_newest syncs made file = record {
   newest = kept_newest;
   unfailed = λ other. absurd (other refl);
@@ -215,7 +215,7 @@ refused_sync wanted most a b result kept_newest syncs made file = record {
   file = file;
 }
 
-pub refused_read : {T : Type 0} (wanted : Option ℕ) (most : ℕ) (a b c : Drive) (result : Result T DiskFault) (fault : OpenFault) → KeepsNewest a c → Syncs a b result → MadeWell 1 a b → Stays b c → b.faults ≡ a.faults → (fault ≢ Disk → c.faults ≡ b.faults) → SameFile a c → LeavesUnopenedFor wanted most a c fault
+pub refused_read : {T : Type 0} (wanted : Option ℕ) (most : ℕ) (a b c : Drive) (result : Result T DiskFault) (fault : OpenFault) → KeepsNewest a c → Syncs a b result → MadeWell 1 a b → Stays b c → b.faults ≡ a.faults → (fault ≢ Disk → c.faults ≡ b.faults) → SameFile a c → LeavesUnopened wanted most a c fault
 refused_read wanted most a b c result fault kept_newest syncs made stays same calm file = record {
   newest = kept_newest;
   unfailed = λ other. untouched-stays a b c (untouched-sync a b result syncs) stays;
@@ -229,13 +229,13 @@ refused_read wanted most a b c result fault kept_newest syncs made stays same ca
 log_stands : (wanted : Option ℕ) (w most len : ℕ) (drive : Drive) (seen : Seen) (bytes : List ℕ) → drive.bytes ≡ Some bytes → IsFoundFor newest wanted most drive w seen len → HasNoLogFor wanted most bytes → ⊥
 log_stands wanted w most len drive seen bytes told at none =
     let found = at.within.found in
-    no_log wanted at.fits none found.cells (found.recovers bytes told) (sym (found.named bytes told) ∙ newest_is seen.version found.wanted) found.few
+    no_log wanted at.log.fits none found.cells (found.recovers bytes told) (sym (found.named bytes told) ∙ newest_is seen.version found.wanted) found.few
   where
     no_log : (wanted : Option ℕ) → IsWidthFor wanted w → HasNoLogFor wanted most bytes → HasNoLog w most bytes
     no_log (Some v) same none = subst (λ u. HasNoLog u most bytes) same none
     no_log None known none = none w known
 
-pub refused_cut : (wanted : Option ℕ) (w most len : ℕ) (a b c d : Drive) (seen : Seen) → KeepsNewest a d → b.bytes ≡ a.bytes → IsFoundFor newest wanted most b w seen len → MadeWell 1 a b → Stays b c → Made (false ∷ []) c d ⊎ Made (true ∷ false ∷ []) c d → SameFile a d → LeavesUnopenedFor wanted most a d Disk
+pub refused_cut : (wanted : Option ℕ) (w most len : ℕ) (a b c d : Drive) (seen : Seen) → KeepsNewest a d → b.bytes ≡ a.bytes → IsFoundFor newest wanted most b w seen len → MadeWell 1 a b → Stays b c → Made (false ∷ []) c d ⊎ Made (true ∷ false ∷ []) c d → SameFile a d → LeavesUnopened wanted most a d Disk
 refused_cut wanted w most len a b c d seen kept_newest kept at made stays failed file = record {
   newest = kept_newest;
   unfailed = λ other. absurd (other refl);

@@ -29,7 +29,7 @@ use Rattle.recovery.specs.Pieces.{FailsAt}
 use Rattle.recovery.specs.Reading.{ReadingView, HasRead, FailsIn, IsBehind, Stops, StartsFor, SameLog, HasAllThatIsLeft, IsFilled, IsEmptied, PassesOn, WalksOn, Advances, ReadsPiece}
 use Rattle.recovery.specs.Headers.{HasHeader}
 use Rattle.zorder.specs.Width.{IsWidth}
-use Rattle.recovery.specs.Wanted.{IsWidthFor, MayTellCells}
+use Rattle.recovery.specs.Wanted.{IsWidthFor, MayTell}
 use Rattle.recovery.proofs.HeadLemmas.{begins_first}
 use Rattle.recovery.proofs.PieceLemmas.{all_append}
 use Rattle.recovery.proofs.CellEffects.{placed_after}
@@ -234,14 +234,14 @@ module _ (cells : List Cell) (drive : Drive) (old : ReadingView) (read : HasRead
   stop_behind fault.NotLog at = at
   stop_behind (fault.OldLog version width) at = at
 
--- a fault behind cells may be told of them
-pub behind_may : (most number : ℕ) (e : OpenFault) → IsBehind most number e → MayTellCells most e
-behind_may most number fault.NotLog at = at
-behind_may most number (fault.OldLog version width) at = at
-behind_may most number (fault.Damaged n why) at = omega (arith, at.0, at.1)
-behind_may most number (fault.TooLong limit) at = at.0
-behind_may most number fault.Disk at = tt
-behind_may most number fault.Memory at = tt
+-- a fault behind cells may be told of their log
+pub behind_may : (oldest : ℕ) (wanted : Option ℕ) (most number : ℕ) (e : OpenFault) → IsBehind most number e → MayTell oldest wanted most e
+behind_may oldest wanted most number fault.NotLog at = tt
+behind_may oldest wanted most number (fault.OldLog version width) at = absurd at
+behind_may oldest wanted most number (fault.Damaged n why) at = omega (arith, at.0, at.1)
+behind_may oldest wanted most number (fault.TooLong limit) at = at.0
+behind_may oldest wanted most number fault.Disk at = tt
+behind_may oldest wanted most number fault.Memory at = tt
 
 pub same_log-trans : (a b c : ReadingView) → SameLog a b → SameLog b c → SameLog a c
 same_log-trans a b c first second = record { version = second.version ∙ first.version; width = second.width ∙ first.width; most = second.most ∙ first.most; len = second.len ∙ first.len }
@@ -278,8 +278,8 @@ module _ (drive : Drive) (old mid : ReadingView) (filled : IsFilled drive old mi
 
   fails_old : (e : OpenFault) → FailsIn mid.most drive mid.replay e → FailsIn old.most drive old.replay e
   fails_old e fails xs told oldest wanted =
-      subst (λ m. IsFault oldest old.replay.width m xs e) same_mid.most
-      (subst (λ n. IsFault oldest n mid.most xs e) same_mid.width (fails xs told oldest (subst (IsWanted oldest) (sym same_mid.version) wanted)))
+      subst (λ m. IsFault oldest (Some old.replay.width) m xs e) same_mid.most
+      (subst (λ n. IsFault oldest (Some n) mid.most xs e) same_mid.width (fails xs told oldest (subst (IsWanted oldest) (sym same_mid.version) wanted)))
 
   pub advances : (new : ReadingView) (result : Result (Option Walked) OpenFault) → WalksOn mid new result → Advances drive old new result
   advances new (Ok (Some walked)) on = record {

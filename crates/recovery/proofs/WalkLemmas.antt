@@ -1,5 +1,5 @@
 -- What calls on a reading say of the log: of the next cell, and of all.
-use Rattle.std.proofs.Common.{◌≡◌, ◌⊎◌, ℕ, ◌≤◌, List, [], ◌∷◌, ◌++◌, length, Option, Some, None, sym, ◌∙◌, ap, subst, arith, length-append, lit≤}
+use Rattle.std.proofs.Common.{◌≡◌, ℕ, ◌≤◌, List, [], ◌∷◌, ◌++◌, length, Option, Some, None, sym, ◌∙◌, ap, subst, arith, length-append, lit≤}
 use Rattle.std.specs.Prelude.{Result, Ok, Err}
 use Rattle.cell_format.specs.Spelling.{IsVersion}
 use Rattle.cell_format.specs.declared.cell.Cell.{Cell}
@@ -10,17 +10,16 @@ use Rattle.recovery.specs.declared.seen.OpenFault.{OpenFault}
 use Rattle.recovery.specs.declared.seen.OpenFault.TheVariants as fault
 use Rattle.recovery.specs.declared.seen.Seen.{Seen}
 use Rattle.recovery.specs.declared.walked.Walked.{Walked}
-use Rattle.recovery.specs.Faults.{BeginsWith, IsFault, IsInBytes}
+use Rattle.recovery.specs.Faults.{BeginsWith, IsFault, IsInBytes, IsOfHead}
 use Rattle.recovery.specs.Found.{Shows, IsWanted}
 use Rattle.recovery.specs.Reading.{ReadingView, HasRead, IsBehind, FailsOn, Starts, SameLog, Advances, ReadsAll, IsOnWay, IsSeenOf, OnlyReads, IsFoundIn}
 use Rattle.recovery.specs.Walked.{IsNextWalked}
 use Rattle.recovery.specs.Headers.{HasHeader}
-use Rattle.recovery.specs.Wanted.{MayTellCells}
-use Rattle.recovery.specs.Walks.{WalkView, ComesTo, TellsWalked, TellsFault, TellsAll, IsOfHead}
+use Rattle.recovery.specs.Walks.{WalkView, ComesTo, TellsWalked, TellsFault, TellsAll}
 use Rattle.recovery.proofs.Exclusive.{known_version, behind_header, header_is_new, recovers_no_fault, recovers_wanted, told_fault, told_free, one_recovery}
 use Rattle.recovery.proofs.HeadLemmas.{index_version, header_is_log}
 use Rattle.recovery.proofs.OnlyReading.{stays-trans}
-use Rattle.recovery.proofs.ReadingLemmas.{behind_may, has_read-stays, same_log-trans}
+use Rattle.recovery.proofs.ReadingLemmas.{has_read-stays, same_log-trans}
 
 -- all cells of a log, one after the other
 module _ (before now after : Drive) (first r new : ReadingView) (way : IsOnWay before now first r) (stays : Stays now after) (file : SameFile now after) where
@@ -53,11 +52,11 @@ module _ (before now after : Drive) (first r new : ReadingView) (way : IsOnWay b
     fails = λ cells read xs told oldest wanted.
         let so_far = way.reads cells read in
         let fails = (adv.tells so_far.0 (has_read-stays so_far.0 before now r way.stays.bytes so_far.1)).2 in
-        subst (λ m. IsFault oldest first.replay.width m xs e) way.same.most
-        (subst (λ n. IsFault oldest n r.most xs e) way.same.width (fails xs (way.stays.bytes ∙ told) oldest (subst (IsWanted oldest) (sym way.same.version) wanted)));
-    may = λ cells read.
+        subst (λ m. IsFault oldest (Some first.replay.width) m xs e) way.same.most
+        (subst (λ n. IsFault oldest (Some n) r.most xs e) way.same.width (fails xs (way.stays.bytes ∙ told) oldest (subst (IsWanted oldest) (sym way.same.version) wanted)));
+    behind = λ cells read.
         let so_far = way.reads cells read in
-        subst (λ m. MayTellCells m e) way.same.most (behind_may r.most (length so_far.0) e (adv.tells so_far.0 (has_read-stays so_far.0 before now r way.stays.bytes so_far.1)).1);
+        (length so_far.0, subst (λ m. IsBehind m (length so_far.0) e) way.same.most (adv.tells so_far.0 (has_read-stays so_far.0 before now r way.stays.bytes so_far.1)).1);
   }
 
 -- what is found in a log that was read to its end
@@ -122,12 +121,12 @@ module _ {D : Type 0} (w most : ℕ) (cells : List Cell) (old new : Drive) (walk
       let told = adv.tells cells come.read in (
         comes_on cells told.0 adv.same come.few,
         subst (λ m. IsBehind m (length cells) e) come.most_is told.1,
-        λ xs is. subst (λ m. IsFault 1 w m xs e) come.most_is (subst (λ n. IsFault 1 n walk.reading.most xs e) come.width (told.2 xs is 1 come.wanted)),
+        λ xs is. subst (λ m. IsFault 1 (Some w) m xs e) come.most_is (subst (λ n. IsFault 1 (Some n) walk.reading.most xs e) come.width (told.2 xs is 1 come.wanted)),
       )
 
 -- what the bytes show is what is told
 module _ {D : Type 0} (w most : ℕ) (cells : List Cell) (old new : Drive) (next : WalkView D) (bytes : List ℕ) (known : old.bytes ≡ Some bytes) where
-  pub tells_fault : (f : OpenFault) (result : Result (Option Walked) OpenFault) → length cells ≤ most → IsInBytes f → IsFault 1 w most bytes f → OnlyReads old new result → TellsWalked w most cells old new next result → TellsFault f old new result
+  pub tells_fault : (f : OpenFault) (result : Result (Option Walked) OpenFault) → length cells ≤ most → IsInBytes f → IsFault 1 (Some w) most bytes f → OnlyReads old new result → TellsWalked w most cells old new next result → TellsFault f old new result
   tells_fault f (Ok (Some walked)) few shown is reads told = tt
   tells_fault f (Ok None) few shown is reads told =
       let recovers = told.1 bytes known in
@@ -152,13 +151,13 @@ first_header oldest w most drive r bytes starts known =
     }
 
 -- and no fault in it
-pub head_is_good : (w most : ℕ) (drive : Drive) (r : ReadingView) (bytes : List ℕ) (f : OpenFault) → Starts 1 w most drive r → drive.bytes ≡ Some bytes → IsInBytes f → IsOfHead f → IsFault 1 w most bytes f → ⊥
+pub head_is_good : (w most : ℕ) (drive : Drive) (r : ReadingView) (bytes : List ℕ) (f : OpenFault) → Starts 1 w most drive r → drive.bytes ≡ Some bytes → IsInBytes f → IsOfHead f → IsFault 1 (Some w) most bytes f → ⊥
 head_is_good w most drive r bytes f starts known shown head is = by_fault f shown head is
   where
     has : HasHeader r.replay.version w bytes
     has = first_header 1 w most drive r bytes starts known
 
-    by_fault : (f : OpenFault) → IsInBytes f → IsOfHead f → IsFault 1 w most bytes f → ⊥
+    by_fault : (f : OpenFault) → IsInBytes f → IsOfHead f → IsFault 1 (Some w) most bytes f → ⊥
     by_fault fault.NotLog shown head is = header_is_log r.replay.version w bytes has is
     by_fault (fault.OldLog version width) shown head is = header_is_new 1 r.replay.version w bytes version width starts.wanted has is
     by_fault (fault.Damaged number why) shown head is = head

@@ -1,19 +1,21 @@
 -- What is at fault in a log that is wanted, by its width or by the width that it has.
-use Rattle.std.proofs.Common.{◌≡◌, ℕ, ◌≤◌, ◌⊎◌, inl, inr, ⊎_elim, List, Option, Some, None, length, refl, sym, ◌∙◌, subst, arith}
+use Rattle.std.proofs.Common.{◌≡◌, ℕ, ◌≤◌, ◌⊎◌, inl, inr, ⊎_elim, List, Option, Some, None, length, refl, sym, ◌∙◌, subst, lit≤, arith}
 use Rattle.std.specs.Prelude.{slice_index, IfSome}
 use Rattle.causes.specs.Causes.{Rose}
 use Rattle.disk_trait.specs.Drive.{Drive}
 use Rattle.cell_format.specs.declared.cell.Cell.{Cell}
+use Rattle.cell_format.specs.Spelling.{newest}
 use Rattle.log_state.specs.Recovers.{Recovers}
 use Rattle.recovery.specs.declared.seen.OpenFault.{OpenFault}
 use Rattle.recovery.specs.declared.seen.OpenFault.TheVariants as fault
-use Rattle.recovery.specs.Faults.{IsFault, IsInBytes}
-use Rattle.recovery.specs.Found.{IsWanted, IsFree}
-use Rattle.recovery.specs.Reading.{ReadingView, StartsFor}
-use Rattle.recovery.specs.Walks.{IsOfHead}
+use Rattle.recovery.specs.declared.seen.Seen.{Seen}
+use Rattle.recovery.specs.Faults.{IsFault, IsInBytes, IsOfHead, RefusesRead, ShowsFault}
+use Rattle.recovery.specs.Found.{IsFound, IsWanted, IsFree}
+use Rattle.recovery.specs.Reading.{FindsWanted, ReadingView, StartsFor}
+use Rattle.recovery.specs.Walks.{RefusesWalk}
 use Rattle.zorder.specs.Width.{IsWidth}
-use Rattle.recovery.specs.Widths.{HasWidth, IsWidthOf, IsLogFault}
-use Rattle.recovery.specs.Wanted.{IsWidthFor, IsFaultFor, MayTellFor, MayTellCells}
+use Rattle.recovery.specs.Widths.{HasWidth, IsWidthOf}
+use Rattle.recovery.specs.Wanted.{IsWidthFor, MayTell}
 use Rattle.recovery.proofs.Exclusive.{one_fault, recovers_no_fault, told_free}
 use Rattle.recovery.proofs.WalkLemmas.{first_header}
 use Rattle.recovery.proofs.WidthLemmas.{has_width, recovers_width, fault_seen, fault_at}
@@ -22,24 +24,6 @@ use Rattle.recovery.proofs.WidthLemmas.{has_width, recovers_width, fault_seen, f
 pub known_for : (wanted : Option ℕ) → IfSome wanted IsWidth → (w : ℕ) → IsWidthFor wanted w → IsWidth w
 known_for (Some v) known w same = subst IsWidth same known
 known_for None known w is = is
-
--- a fault that the bytes needn't show
-pub memory_for : (oldest : ℕ) (wanted : Option ℕ) (most : ℕ) (bytes : List ℕ) → IsFaultFor oldest wanted most bytes fault.Memory
-memory_for oldest (Some w) most bytes = tt
-memory_for oldest None most bytes = tt
-
-pub disk_for : (oldest : ℕ) (wanted : Option ℕ) (most : ℕ) (bytes : List ℕ) → IsFaultFor oldest wanted most bytes fault.Disk
-disk_for oldest (Some w) most bytes = tt
-disk_for oldest None most bytes = tt
-
--- what may be told of cells may be told of a log
-pub cells_may : (oldest : ℕ) (wanted : Option ℕ) (most : ℕ) (e : OpenFault) → MayTellCells most e → MayTellFor oldest wanted most e
-cells_may oldest wanted most fault.NotLog may = tt
-cells_may oldest wanted most (fault.OldLog version width) may = absurd may
-cells_may oldest wanted most (fault.Damaged n why) may = may
-cells_may oldest wanted most (fault.TooLong limit) may = may
-cells_may oldest wanted most fault.Disk may = tt
-cells_may oldest wanted most fault.Memory may = tt
 
 -- a log of which the reading has begun names its width
 pub starts_width : (oldest : ℕ) (wanted : Option ℕ) (most : ℕ) (drive : Drive) (r : ReadingView) → 1 ≤ oldest → StartsFor oldest wanted most drive r → IsWidthOf drive r.replay.width
@@ -51,41 +35,41 @@ starts_width oldest wanted most drive r least begun = record {
 
 module _ (oldest most : ℕ) (bytes : List ℕ) where
   -- what is at fault for whoever knows the width is at fault in a log of that width, where it is wanted, and the other way round
-  pub fault_for : (wanted : Option ℕ) (w : ℕ) → IsWidthFor wanted w → HasWidth w bytes → (e : OpenFault) → IsFault oldest w most bytes e → IsFaultFor oldest wanted most bytes e
-  fault_for (Some v) w same has e is = subst (λ n. IsFault oldest n most bytes e) (sym same) is
+  pub fault_for : (wanted : Option ℕ) (w : ℕ) → IsWidthFor wanted w → HasWidth w bytes → (e : OpenFault) → IsFault oldest (Some w) most bytes e → IsFault oldest wanted most bytes e
+  fault_for (Some v) w same has e is = subst (λ n. IsFault oldest (Some n) most bytes e) (sym same) is
   fault_for None w known has e is = fault_seen oldest most bytes w has e is
 
-  pub for_width : (wanted : Option ℕ) (w : ℕ) → IsWidthFor wanted w → HasWidth w bytes → (e : OpenFault) → IsFaultFor oldest wanted most bytes e → IsFault oldest w most bytes e
-  for_width (Some v) w same has e is = subst (λ n. IsFault oldest n most bytes e) same is
+  pub for_width : (wanted : Option ℕ) (w : ℕ) → IsWidthFor wanted w → HasWidth w bytes → (e : OpenFault) → IsFault oldest wanted most bytes e → IsFault oldest (Some w) most bytes e
+  for_width (Some v) w same has e is = subst (λ n. IsFault oldest (Some n) most bytes e) same is
   for_width None w known has e is = fault_at oldest most bytes w has e is
 
   module _ (least : 1 ≤ oldest) where
     -- bytes show one fault at most
-    one_own : (e f : OpenFault) → IsInBytes e → IsInBytes f → IsLogFault oldest most bytes e → IsLogFault oldest most bytes f → e ≡ f
+    one_own : (e f : OpenFault) → IsInBytes e → IsInBytes f → IsFault oldest None most bytes e → IsFault oldest None most bytes f → e ≡ f
     one_own fault.NotLog fault.NotLog se sf a b = refl
     one_own fault.NotLog (fault.OldLog version width) se sf a b = absurd (b.is_log a)
     one_own fault.NotLog (fault.Damaged n why) se sf a (w, has, is) = absurd (has.is_log a)
-    one_own fault.NotLog (fault.TooLong limit) se sf a (w, has, same, is) = absurd (has.is_log a)
+    one_own fault.NotLog (fault.TooLong limit) se sf a (w, has, is) = absurd (has.is_log a)
     one_own fault.NotLog fault.Disk se sf a b = absurd sf
     one_own fault.NotLog fault.Memory se sf a b = absurd sf
     one_own (fault.OldLog v u) fault.NotLog se sf a b = absurd (a.is_log b)
     one_own (fault.OldLog v u) (fault.OldLog version width) se sf a b = λ i. fault.OldLog ((a.version_is ∙ sym b.version_is) i) ((a.width_is ∙ sym b.width_is) i)
     one_own (fault.OldLog v u) (fault.Damaged n why) se sf a (w, has, is) = one_fault oldest w most least bytes (fault.OldLog v u) (fault.Damaged n why) tt tt (fault_at oldest most bytes w has (fault.OldLog v u) a) is
-    one_own (fault.OldLog v u) (fault.TooLong limit) se sf a (w, has, same, is) = one_fault oldest w most least bytes (fault.OldLog v u) (fault.TooLong limit) tt tt (fault_at oldest most bytes w has (fault.OldLog v u) a) (same, is)
+    one_own (fault.OldLog v u) (fault.TooLong limit) se sf a (w, has, is) = one_fault oldest w most least bytes (fault.OldLog v u) (fault.TooLong limit) tt tt (fault_at oldest most bytes w has (fault.OldLog v u) a) is
     one_own (fault.OldLog v u) fault.Disk se sf a b = absurd sf
     one_own (fault.OldLog v u) fault.Memory se sf a b = absurd sf
     one_own (fault.Damaged n why) f se sf (w, has, is) b = one_fault oldest w most least bytes (fault.Damaged n why) f tt sf is (fault_at oldest most bytes w has f b)
-    one_own (fault.TooLong limit) f se sf (w, has, same, is) b = one_fault oldest w most least bytes (fault.TooLong limit) f tt sf (same, is) (fault_at oldest most bytes w has f b)
+    one_own (fault.TooLong limit) f se sf (w, has, is) b = one_fault oldest w most least bytes (fault.TooLong limit) f tt sf is (fault_at oldest most bytes w has f b)
     one_own fault.Disk f se sf a b = absurd se
     one_own fault.Memory f se sf a b = absurd se
 
-    one_for : (wanted : Option ℕ) (e f : OpenFault) → IsInBytes e → IsInBytes f → IsFaultFor oldest wanted most bytes e → IsFaultFor oldest wanted most bytes f → e ≡ f
+    one_for : (wanted : Option ℕ) (e f : OpenFault) → IsInBytes e → IsInBytes f → IsFault oldest wanted most bytes e → IsFault oldest wanted most bytes f → e ≡ f
     one_for (Some w) e f se sf a b = one_fault oldest w most least bytes e f se sf a b
     one_for None e f se sf a b = one_own e f se sf a b
 
     module _ (wanted : Option ℕ) (old new : Drive) where
       -- an answer that isn't free is the one fault
-      pub told_for : (e f : OpenFault) → IsFaultFor oldest wanted most bytes e → (e ≡ fault.Disk → Rose old.faults new.faults) → IsInBytes f → IsFaultFor oldest wanted most bytes f → (e ≡ f) ⊎ IsFree old new e
+      pub told_for : (e f : OpenFault) → IsFault oldest wanted most bytes e → (e ≡ fault.Disk → Rose old.faults new.faults) → IsInBytes f → IsFault oldest wanted most bytes f → (e ≡ f) ⊎ IsFree old new e
       told_for fault.Disk f holds rose shown is = inr (inr (rose refl))
       told_for fault.Memory f holds rose shown is = inr (inl refl)
       told_for fault.NotLog f holds rose shown is = inl (one_for wanted fault.NotLog f tt shown holds is)
@@ -95,17 +79,17 @@ module _ (oldest most : ℕ) (bytes : List ℕ) where
 
       module _ (w : ℕ) (fits : IsWidthFor wanted w) where
         -- where the bytes recover to few enough cells it is free
-        pub free_for : (cells : List Cell) (e : OpenFault) → IsWidth w → IsFaultFor oldest wanted most bytes e → (e ≡ fault.Disk → Rose old.faults new.faults) → Recovers w cells bytes → IsWanted oldest (slice_index bytes 8) → length cells ≤ most → IsFree old new e
+        pub free_for : (cells : List Cell) (e : OpenFault) → IsWidth w → IsFault oldest wanted most bytes e → (e ≡ fault.Disk → Rose old.faults new.faults) → Recovers w cells bytes → IsWanted oldest (slice_index bytes 8) → length cells ≤ most → IsFree old new e
         free_for cells e known holds rose recovers named few =
             told_free oldest w most least bytes old new e cells (for_width wanted w fits (recovers_width w cells bytes known recovers) e holds) rose recovers named few
 
     -- and nothing is at fault
-    pub sound_for : (wanted : Option ℕ) (w : ℕ) → IsWidthFor wanted w → (cells : List Cell) (f : OpenFault) → IsWidth w → Recovers w cells bytes → IsWanted oldest (slice_index bytes 8) → length cells ≤ most → IsInBytes f → IsFaultFor oldest wanted most bytes f → ⊥
+    pub sound_for : (wanted : Option ℕ) (w : ℕ) → IsWidthFor wanted w → (cells : List Cell) (f : OpenFault) → IsWidth w → Recovers w cells bytes → IsWanted oldest (slice_index bytes 8) → length cells ≤ most → IsInBytes f → IsFault oldest wanted most bytes f → ⊥
     sound_for wanted w fits cells f known recovers named few shown is =
         recovers_no_fault oldest w most least bytes cells f recovers named few shown (for_width wanted w fits (recovers_width w cells bytes known recovers) f is)
 
 -- where the head names a width that is wanted, what is told of it is free
-pub head_free : (most w : ℕ) (bytes : List ℕ) (old new : Drive) (e : OpenFault) → HasWidth w bytes → IsOfHead e → IsFault 1 w most bytes e → (e ≡ fault.Disk → Rose old.faults new.faults) → IsFree old new e
+pub head_free : (most w : ℕ) (bytes : List ℕ) (old new : Drive) (e : OpenFault) → HasWidth w bytes → IsOfHead e → IsFault 1 (Some w) most bytes e → (e ≡ fault.Disk → Rose old.faults new.faults) → IsFree old new e
 head_free most w bytes old new fault.NotLog has head is rose = absurd (has.is_log is)
 head_free most w bytes old new (fault.OldLog version width) has head is rose = absurd (⊎_elim
     (λ other. other (subst (IsWanted 1) (sym is.version_is) has.version))
@@ -114,3 +98,33 @@ head_free most w bytes old new (fault.Damaged n why) has head is rose = absurd h
 head_free most w bytes old new (fault.TooLong limit) has head is rose = absurd head
 head_free most w bytes old new fault.Disk has head is rose = inr (rose refl)
 head_free most w bytes old new fault.Memory has head is rose = inl refl
+
+-- what was found in a log that is wanted, and why none is read
+pub finds_wanted : (oldest : ℕ) (wanted : Option ℕ) (most : ℕ) (drive : Drive) (w : ℕ) (seen : Seen) → 1 ≤ oldest → IsWidthOf drive w → IsWidthFor wanted w → IsFound oldest w most drive seen
+    → FindsWanted oldest wanted most drive w seen
+finds_wanted oldest wanted most drive w seen least width fits found = record {
+  width = width;
+  fits = fits;
+  found = found;
+  sound = λ bytes fault told shown is. sound_for oldest most bytes least wanted w fits found.cells fault width.known (found.recovers bytes told) (subst (IsWanted oldest) (found.named bytes told) found.wanted) found.few shown is;
+}
+
+pub refuses_read : (oldest : ℕ) (wanted : Option ℕ) (most : ℕ) (old new : Drive) (e : OpenFault) → 1 ≤ oldest → ShowsFault oldest wanted most old e → MayTell oldest wanted most e → (e ≡ fault.Disk → Rose old.faults new.faults) → RefusesRead oldest wanted most old new e
+refuses_read oldest wanted most old new e least shows may rose = record {
+  shows = shows;
+  may = may;
+  exact = λ bytes fault told shown is. told_for oldest most bytes least wanted old new e fault (shows bytes told) rose shown is;
+  whole = λ w bytes cells fits known told recovers named few. free_for oldest most bytes least wanted old new w fits cells e known (shows bytes told) rose recovers named few;
+  rose = rose;
+}
+
+pub refuses_walk : (wanted : Option ℕ) (most : ℕ) (old new : Drive) (e : OpenFault) → ShowsFault 1 wanted most old e → IsOfHead e → MayTell 1 wanted most e → (e ≡ fault.Disk → Rose old.faults new.faults) → RefusesWalk wanted most old new e
+refuses_walk wanted most old new e shows head may rose = record {
+  fault = refuses_read 1 wanted most old new e (lit≤ tt) shows may rose;
+  head = head;
+  named = λ bytes w told fits has. head_free most w bytes old new e has head (for_width 1 most bytes wanted w fits has e (shows bytes told)) rose;
+}
+
+-- the newest version is wanted by whoever opens
+pub newest_wanted : (v : ℕ) → v ≡ newest → IsWanted newest v
+newest_wanted v is = record { least = omega (arith, is); most = omega (arith, is) }

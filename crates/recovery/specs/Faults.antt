@@ -1,17 +1,23 @@
--- The first place at fault in the bytes of a log.
-use Rattle.std.specs.Prelude.{◌≡◌, ◌≢◌, ◌⊎◌, ℕ, ◌<◌, ◌≤◌, false, List, ◌++◌, length, take, drop, replicate, slice_index, ⊤}
+-- The first place at fault in the bytes of a log that is wanted, and why it isn't read.
+use Rattle.std.specs.Prelude.{◌≡◌, ◌⊎◌, ℕ, ◌<◌, ◌≤◌, false, List, ◌++◌, length, take, slice_index, Option, Some, None, ⊤}
 use Rattle.std.specs.List.{AllByRecursion}
 use Rattle.cell_format.specs.declared.cell.Cell.{Cell}
 use Rattle.cell_format.specs.declared.cell.Cause.{Cause}
 use Rattle.cell_format.specs.declared.cell.Cause.TheVariants as cause
-use Rattle.cell_format.specs.Spelling.{newest, IsCell, Spells, header_text}
+use Rattle.causes.specs.Causes.{Rose}
+use Rattle.cell_format.specs.Spelling.{IsCell, Spells}
 use Rattle.cell_format.specs.Faults.{HasNoKind, HasReserved, HasBadName}
 use Rattle.split_log.specs.LogText.{front_of}
-use Rattle.recovery.specs.Found.{IsWanted}
+use Rattle.disk_trait.specs.Drive.{Drive}
+use Rattle.recovery.specs.Found.{IsWanted, IsFree}
 use Rattle.plain_list.specs.State.{State}
 use Rattle.recovery.specs.declared.seen.OpenFault.{OpenFault}
 use Rattle.recovery.specs.declared.seen.OpenFault.TheVariants.{NotLog, OldLog, Damaged, Disk, Memory, TooLong}
-use Rattle.log_state.specs.Recovers.{IsLegalCells, is_possible_cell, state_of}
+use Rattle.log_state.specs.Recovers.{IsLegalCells, Recovers, is_possible_cell, state_of}
+use Rattle.recovery.specs.Wanted.{IsWidthFor, IsOtherFor, MayTell}
+use Rattle.recovery.specs.Widths.{HasWidth}
+use Rattle.zorder.specs.Width.{IsWidth}
+pub use Rattle.recovery.specs.Widths.{HasOtherHead, IsNotLog}
 
 -- the bytes begin with a header of this version and width and these cells, which are legal, and this stands behind them
 pub record BeginsWith (version w : ℕ) (cells : List Cell) (tail bytes : List ℕ) : Type 0 where
@@ -49,29 +55,27 @@ pub record IsTooLong (oldest w most : ℕ) (bytes : List ℕ) : Type 0 where
   pub place : length cells ≡ most
   pub commit_byte : slice_index tail 0 ≡ 1
 
--- not the eight letters, or one of bytes 10 to 15 isn't 0
-abbrev pub HasOtherHead : List ℕ → Type 0
-HasOtherHead bytes = (take 8 bytes ≢ take 8 (header_text newest 1)) ⊎ (take 6 (drop 10 bytes) ≢ replicate 6 0)
-
--- fewer than 17 bytes, or another head
-abbrev pub IsNotLog : List ℕ → Type 0
-IsNotLog bytes = (length bytes < 17) ⊎ HasOtherHead bytes
-
 -- a log of a version that isn't wanted, or of another width
-pub record IsOldLog (oldest w : ℕ) (bytes : List ℕ) (version width : ℕ) : Type 0 where
+pub record IsOldLog (oldest : ℕ) (wanted : Option ℕ) (bytes : List ℕ) (version width : ℕ) : Type 0 where
   pub is_log : IsNotLog bytes → ⊥
   pub version_is : version ≡ slice_index bytes 8
   pub width_is : width ≡ slice_index bytes 9
-  pub other : (IsWanted oldest version → ⊥) ⊎ (width ≢ w)
+  pub other : IsOtherFor oldest wanted version width
 
--- what is at fault in the bytes; that the drive failed or memory ran out isn't seen there
-abbrev pub IsFault : ℕ → ℕ → ℕ → List ℕ → OpenFault → Type 0
-IsFault oldest w most bytes NotLog = IsNotLog bytes
-IsFault oldest w most bytes (OldLog version width) = IsOldLog oldest w bytes version width
-IsFault oldest w most bytes (Damaged number why) = IsDamaged oldest w most bytes number why
-IsFault oldest w most bytes (TooLong limit) = (limit ≡ most) × IsTooLong oldest w most bytes
-IsFault oldest w most bytes Disk = ⊤
-IsFault oldest w most bytes Memory = ⊤
+-- this is said of the width that is named, or where none is, of the one that the bytes have
+abbrev pub OfWidth : Option ℕ → List ℕ → (ℕ → Type 0) → Type 0
+OfWidth (Some w) bytes P = P w
+OfWidth None bytes P = (w : ℕ) × HasWidth w bytes × P w
+
+-- what is at fault in the bytes for whoever wants logs from this version on, of this width or of either, and of so many cells; that the drive failed or
+-- memory ran out isn't seen there
+abbrev pub IsFault : ℕ → Option ℕ → ℕ → List ℕ → OpenFault → Type 0
+IsFault oldest wanted most bytes NotLog = IsNotLog bytes
+IsFault oldest wanted most bytes (OldLog version width) = IsOldLog oldest wanted bytes version width
+IsFault oldest wanted most bytes (Damaged number why) = OfWidth wanted bytes (λ w. IsDamaged oldest w most bytes number why)
+IsFault oldest wanted most bytes (TooLong limit) = OfWidth wanted bytes (λ w. (limit ≡ most) × IsTooLong oldest w most bytes)
+IsFault oldest wanted most bytes Disk = ⊤
+IsFault oldest wanted most bytes Memory = ⊤
 
 -- a fault that the bytes show
 abbrev pub IsInBytes : OpenFault → Type 0
@@ -81,3 +85,30 @@ IsInBytes (Damaged number why) = ⊤
 IsInBytes (TooLong limit) = ⊤
 IsInBytes Disk = ⊥
 IsInBytes Memory = ⊥
+
+-- a fault that is found before the first cell
+abbrev pub IsOfHead : OpenFault → Type 0
+IsOfHead NotLog = ⊤
+IsOfHead (OldLog version width) = ⊤
+IsOfHead (Damaged number why) = ⊥
+IsOfHead (TooLong limit) = ⊥
+IsOfHead Disk = ⊤
+IsOfHead Memory = ⊤
+
+-- this is at fault in the drive's bytes, where they are known
+abbrev pub ShowsFault : ℕ → Option ℕ → ℕ → Drive → OpenFault → Type 0
+ShowsFault oldest wanted most drive e = (bytes : List ℕ) → drive.bytes ≡ Some bytes → IsFault oldest wanted most bytes e
+
+-- nothing is
+abbrev pub HasNoFault : ℕ → Option ℕ → ℕ → Drive → Type 0
+HasNoFault oldest wanted most drive = (bytes : List ℕ) (fault : OpenFault) → drive.bytes ≡ Some bytes → IsInBytes fault → IsFault oldest wanted most bytes fault → ⊥
+
+-- Why a log that is wanted isn't read: this is first at fault in the bytes, where they are known, and may be told where they aren't. What the bytes show
+-- is what is told, and where they recover to few enough cells nothing of theirs, unless memory ran out or the drive failed.
+pub record RefusesRead (oldest : ℕ) (wanted : Option ℕ) (most : ℕ) (old new : Drive) (e : OpenFault) : Type 0 where
+  pub shows : ShowsFault oldest wanted most old e
+  pub may : MayTell oldest wanted most e
+  pub exact : (bytes : List ℕ) (fault : OpenFault) → old.bytes ≡ Some bytes → IsInBytes fault → IsFault oldest wanted most bytes fault → (e ≡ fault) ⊎ IsFree old new e
+  pub whole : (w : ℕ) (bytes : List ℕ) (cells : List Cell) → IsWidthFor wanted w → IsWidth w → old.bytes ≡ Some bytes → Recovers w cells bytes
+      → IsWanted oldest (slice_index bytes 8) → length cells ≤ most → IsFree old new e
+  pub rose : e ≡ Disk → Rose old.faults new.faults

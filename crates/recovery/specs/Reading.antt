@@ -1,5 +1,5 @@
 -- How far the reading of a log has come.
-use Rattle.std.specs.Prelude.{◌≡◌, ◌≢◌, ◌⊎◌, ℕ, ◌+◌, ◌*◌, ◌-◌, ◌<◌, ◌≤◌, min, List, [], ◌∷◌, ◌++◌, length, take, drop, slice_index, Option, Some, None, Result, Ok, Err, MatchResult, IsErrOf, ⊤}
+use Rattle.std.specs.Prelude.{◌≡◌, ◌≢◌, ℕ, ◌+◌, ◌*◌, ◌-◌, ◌<◌, ◌≤◌, min, List, [], ◌∷◌, ◌++◌, length, take, drop, slice_index, Option, Some, None, Result, Ok, Err, MatchResult, IsErrOf, ⊤}
 use Rattle.cell_format.specs.Spelling.{IsVersion}
 use Rattle.causes.specs.Causes.{Rose}
 use Rattle.cell_format.specs.declared.cell.Cell.{Cell}
@@ -10,7 +10,7 @@ use Rattle.recovery.specs.declared.seen.OpenFault.TheVariants.{NotLog, OldLog, D
 use Rattle.recovery.specs.declared.walked.Walked.{Walked}
 use Rattle.log_state.specs.Recovers.{IsLegalCells, state_of}
 use Rattle.recovery.specs.declared.seen.Seen.{Seen}
-use Rattle.recovery.specs.Faults.{BeginsWith, IsFault}
+use Rattle.recovery.specs.Faults.{BeginsWith, IsFault, HasNoFault}
 use Rattle.recovery.specs.Found.{Shows, IsWanted, IsFound}
 use Rattle.recovery.specs.Pieces.{PassesCell, FailsAt}
 use Rattle.recovery.specs.Replay.{ReplayView}
@@ -18,7 +18,7 @@ use Rattle.recovery.specs.Room.{HasRoomAfter}
 use Rattle.recovery.specs.Walked.{IsNextWalked}
 use Rattle.zorder.specs.Width.{IsWidth}
 use Rattle.recovery.specs.Widths.{IsWidthOf}
-use Rattle.recovery.specs.Wanted.{IsWidthFor, MayTellCells}
+use Rattle.recovery.specs.Wanted.{IsWidthFor}
 
 -- the state after the cells so far, their number, how many there may be, the length of the file, and what is left of the piece that was read last,
 -- from the commit byte of the next cell on
@@ -50,7 +50,7 @@ pub record HasRead (cells : List Cell) (drive : Drive) (r : ReadingView) : Type 
 
 -- this is at fault in the bytes, where they are known, for whoever wants the version of the log
 abbrev pub FailsIn : ℕ → Drive → ReplayView → OpenFault → Type 0
-FailsIn most drive replay e = (xs : List ℕ) → drive.bytes ≡ Some xs → (oldest : ℕ) → IsWanted oldest replay.version → IsFault oldest replay.width most xs e
+FailsIn most drive replay e = (xs : List ℕ) → drive.bytes ≡ Some xs → (oldest : ℕ) → IsWanted oldest replay.version → IsFault oldest (Some replay.width) most xs e
 
 -- a fault behind so many cells: of the next one, or that there may be no more, or none of the bytes
 abbrev pub IsBehind : ℕ → ℕ → OpenFault → Type 0
@@ -65,10 +65,10 @@ IsBehind most number Memory = ⊤
 abbrev pub FailsBehind : Drive → ReadingView → OpenFault → Type 0
 FailsBehind drive r e = (cells : List Cell) → HasRead cells drive r → FailsIn r.most drive r.replay e
 
--- and it may be told of a cell behind them, or that there may be no more
+-- after them, or after more
 pub record FailsOn (drive : Drive) (r : ReadingView) (e : OpenFault) : Type 0 where
   pub fails : FailsBehind drive r e
-  pub may : (cells : List Cell) → HasRead cells drive r → MayTellCells r.most e
+  pub behind : (cells : List Cell) → HasRead cells drive r → (number : ℕ) × IsBehind r.most number e
 
 -- right behind them
 abbrev pub Stops : Drive → ReadingView → OpenFault → Type 0
@@ -191,8 +191,14 @@ pub record IsFoundIn (oldest w most : ℕ) (drive : Drive) (seen : Seen) (len : 
   pub room : 17 + 32 * seen.cells ≤ len
   pub whole : (bytes : List ℕ) → drive.bytes ≡ Some bytes → length bytes ≡ len
 
--- the same in a log that is wanted, by the width that it has
-pub record IsFoundFor (oldest : ℕ) (wanted : Option ℕ) (most : ℕ) (drive : Drive) (w : ℕ) (seen : Seen) (len : ℕ) : Type 0 where
+-- what was found in a log that is wanted, by the width that it has, in which nothing is at fault
+pub record FindsWanted (oldest : ℕ) (wanted : Option ℕ) (most : ℕ) (drive : Drive) (w : ℕ) (seen : Seen) : Type 0 where
   pub width : IsWidthOf drive w
   pub fits : IsWidthFor wanted w
+  pub found : IsFound oldest w most drive seen
+  pub sound : HasNoFault oldest wanted most drive
+
+-- and in a file of this length
+pub record IsFoundFor (oldest : ℕ) (wanted : Option ℕ) (most : ℕ) (drive : Drive) (w : ℕ) (seen : Seen) (len : ℕ) : Type 0 where
+  pub log : FindsWanted oldest wanted most drive w seen
   pub within : IsFoundIn oldest w most drive seen len

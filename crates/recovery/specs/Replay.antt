@@ -1,5 +1,5 @@
 -- The state of the cells so far, as it is kept.
-use Rattle.std.specs.Prelude.{◌≡◌, ◌⊎◌, ℕ, ◌+◌, ◌≤◌, true, false, List, length, Option, Some, Result, IfOk, OnErr, Err}
+use Rattle.std.specs.Prelude.{◌≡◌, ℕ, ◌+◌, ◌≤◌, true, false, List, length, Option, Some, Result, IfOk, OnErr, Err}
 use Rattle.std.specs.List.{AllByRecursion}
 use Rattle.cell_format.specs.Spelling.{IsVersion}
 use Rattle.zorder.specs.Width.{IsWidth}

@@ -4,13 +4,13 @@ use Rattle.cell_format.specs.declared.cell.Cell.{Cell}
 use Rattle.disk_trait.specs.Drive.{Drive}
 use Rattle.log_state.specs.Recovers.{IsLegalCells, Recovers}
 use Rattle.recovery.specs.declared.seen.OpenFault.{OpenFault}
-use Rattle.recovery.specs.declared.seen.OpenFault.TheVariants.{NotLog, OldLog, Damaged, Disk, Memory, TooLong}
 use Rattle.recovery.specs.declared.walked.Walked.{Walked}
-use Rattle.recovery.specs.Faults.{IsFault}
+use Rattle.recovery.specs.Faults.{IsInBytes, IsFault, RefusesRead}
 use Rattle.recovery.specs.Found.{IsWanted, IsFree}
 use Rattle.recovery.specs.Reading.{ReadingView, HasRead, IsBehind}
-use Rattle.recovery.specs.Widths.{IsWidthOf}
-use Rattle.recovery.specs.Wanted.{IsFaultFor, MayTellFor}
+use Rattle.recovery.specs.Widths.{HasWidth, IsWidthOf}
+use Rattle.recovery.specs.Wanted.{IsWidthFor}
+pub use Rattle.recovery.specs.Faults.{IsOfHead}
 pub use Rattle.recovery.specs.Walked.{object_of, place_in, IsNextWalked}
 
 -- the drive, and how far its log was read
@@ -41,7 +41,7 @@ TellsWalked w most cells old new walk (Ok (Some walked)) = ComesTo w most (cells
 TellsWalked w most cells old new walk (Ok None) =
     ComesTo w most cells new walk × ((bytes : List ℕ) → old.bytes ≡ Some bytes → Recovers w cells bytes)
 TellsWalked w most cells old new walk (Err e) =
-    ComesTo w most cells new walk × IsBehind most (length cells) e × ((bytes : List ℕ) → old.bytes ≡ Some bytes → IsFault 1 w most bytes e)
+    ComesTo w most cells new walk × IsBehind most (length cells) e × ((bytes : List ℕ) → old.bytes ≡ Some bytes → IsFault 1 (Some w) most bytes e)
 
 -- where this is at fault in the bytes, a call tells a cell, or the fault, and no end
 abbrev pub TellsFault : OpenFault → Drive → Drive → Result (Option Walked) OpenFault → Type 0
@@ -55,17 +55,14 @@ TellsAll all cells old new (Ok (Some walked)) = ⊤
 TellsAll all cells old new (Ok None) = cells ≡ all
 TellsAll all cells old new (Err e) = IsFree old new e
 
--- a fault that is found before the first cell
-abbrev pub IsOfHead : OpenFault → Type 0
-IsOfHead NotLog = ⊤
-IsOfHead (OldLog version width) = ⊤
-IsOfHead (Damaged number why) = ⊥
-IsOfHead (TooLong limit) = ⊥
-IsOfHead Disk = ⊤
-IsOfHead Memory = ⊤
+-- before the first cell of a log that is wanted, of this width, in whose head nothing is at fault
+pub record BeginsWalk {D : Type 0} (wanted : Option ℕ) (most w : ℕ) (old new : Drive) (walk : WalkView D) : Type 0 where
+  pub fits : IsWidthFor wanted w
+  pub along : ComesAlong w most [] new walk
+  pub sound : (bytes : List ℕ) (fault : OpenFault) → old.bytes ≡ Some bytes → IsInBytes fault → IsOfHead fault → IsFault 1 wanted most bytes fault → ⊥
 
 -- why no walk begins along a log that is wanted: this is at fault in its head, or beside the bytes
-pub record RefusesWalk (wanted : Option ℕ) (most : ℕ) (drive : Drive) (e : OpenFault) : Type 0 where
-  pub shows : (bytes : List ℕ) → drive.bytes ≡ Some bytes → IsFaultFor 1 wanted most bytes e
+pub record RefusesWalk (wanted : Option ℕ) (most : ℕ) (old new : Drive) (e : OpenFault) : Type 0 where
+  pub fault : RefusesRead 1 wanted most old new e
   pub head : IsOfHead e
-  pub may : MayTellFor 1 wanted most e
+  pub named : (bytes : List ℕ) (w : ℕ) → old.bytes ≡ Some bytes → IsWidthFor wanted w → HasWidth w bytes → IsFree old new e

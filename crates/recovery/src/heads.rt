@@ -1,24 +1,20 @@
 //! Reads the head of a file: which version and which width its log has.
-ghost use Rattle.std.specs.Prelude.{◌≡◌, ◌⊎◌, ◌≤◌, ℕ, true, false, List, Some, length, take, drop, replicate, IfOk, IfErr, IfSome};
-ghost use Rattle.std.specs.Result.{IsErrAnd};
-ghost use Rattle.causes.specs.Causes.{Rose};
+ghost use Rattle.std.specs.Prelude.{◌≡◌, ◌≢◌, ◌⊎◌, ◌≤◌, ℕ, true, false, List, Some, None, length, take, drop, replicate, IfOk, IfErr, IfSome};
 ghost use Rattle.cell_format.specs.Spelling.{newest, header_text};
 ghost use Rattle.recovery.specs.declared.seen.OpenFault.{OpenFault};
-ghost use Rattle.recovery.specs.declared.seen.OpenFault.TheVariants.{OldLog};
-ghost use Rattle.recovery.specs.Faults.{HasOtherHead, IsInBytes};
+ghost use Rattle.recovery.specs.declared.seen.OpenFault.TheVariants.{OldLog, Memory};
 ghost use Rattle.recovery.specs.Found.{IsWanted};
-ghost use Rattle.recovery.specs.Headers.{HasHeader, HasHead, FailsHead};
+ghost use Rattle.recovery.specs.Headers.{HasHeader, HasHead, FailsHead, RefusesHead};
 ghost use Rattle.recovery.specs.Reading.{OnlyReads};
+ghost use Rattle.recovery.specs.Walks.{RefusesWalk};
 ghost use Rattle.zorder.specs.Width.{IsWidth};
-ghost use Rattle.recovery.specs.Widths.{HasWidth, IsHeadFault};
-ghost use Rattle.recovery.specs.Wanted.{IsWidthFor, IsNoWidthFor, IsOtherFor, IsFaultFor, MayTellHead, MayTellHeadFor};
+ghost use Rattle.recovery.specs.Widths.{HasOtherHead, IsWidthOf};
+ghost use Rattle.recovery.specs.Wanted.{IsWidthFor, IsNoWidthFor, IsOtherFor};
 
-use crate::seen::{NEWEST, OpenFault};
+use crate::seen::OpenFault;
+use crate::wanted::{FIRST, NEWEST};
 use cell_format::header;
 use disk_trait::LogDisk;
-
-/// The first version of a log.
-pub(crate) const FIRST: u8 = 1;
 
 /// What the head of a log names.
 #[derive(Clone, Copy)]
@@ -27,17 +23,10 @@ pub(crate) struct Head {
     pub(crate) width: u8,
 }
 
-/// The width that the head of a log of version 1 or 2 names, for who wants it before `inspect`, `open` or `Walk::start`. `inspect_log`,
-/// `open_log` and `Walk::along` find it by themselves, so of this project tests alone call this.
+/// The width that the head of a log of version 1 or 2 names, for whoever wants it alone.
 pub fn width_of<D: LogDisk>(disk: &mut D) -> Result<u8, OpenFault>
-    ensures known { IfOk result IsWidth }
-    ensures told { IfOk result (λ w. (bytes : List ℕ) → (D.drive disk.old).bytes ≡ Some bytes → HasWidth w bytes) }
-    ensures fault { IfErr result (λ e. (bytes : List ℕ) → (D.drive disk.old).bytes ≡ Some bytes → IsHeadFault bytes e) }
-    ensures may { IfErr result MayTellHead }
-    ensures exact { (bytes : List ℕ) (fault : OpenFault) → (D.drive disk.old).bytes ≡ Some bytes → IsInBytes fault
-        → IsHeadFault bytes fault → IsErrAnd result (λ e. (e ≡ fault) ⊎ Rose (D.drive disk.old).faults (D.drive disk.new).faults) }
-    ensures whole { (bytes : List ℕ) (w : ℕ) → (D.drive disk.old).bytes ≡ Some bytes → HasWidth w bytes
-        → IfErr result (λ _. Rose (D.drive disk.old).faults (D.drive disk.new).faults) }
+    ensures told { IfOk result (IsWidthOf (D.drive disk.old)) }
+    ensures refused { IfErr result (λ e. (e ≢ Memory) × ((most : ℕ) → RefusesWalk None most (D.drive disk.old) (D.drive disk.new) e)) }
     ensures reads { OnlyReads (D.drive disk.old) (D.drive disk.new) result }
 {
     let len = disk.len()?;
@@ -82,8 +71,7 @@ pub(crate) fn read_wanted<D: LogDisk>(
     requires width { IfSome wanted IsWidth }
 
     ensures ok { IfOk result (λ h. HasHead oldest wanted len (D.drive disk.old) h.version h.width) }
-    ensures err { IfErr result (λ e. (xs : List ℕ) → (D.drive disk.old).bytes ≡ Some xs → (most : ℕ) → IsFaultFor oldest wanted most xs e) }
-    ensures may { IfErr result (MayTellHeadFor oldest wanted) }
+    ensures err { IfErr result (RefusesHead oldest wanted (D.drive disk.old)) }
     ensures reads { OnlyReads (D.drive disk.old) (D.drive disk.new) result }
 {
     let head = read_head(disk, len)?;

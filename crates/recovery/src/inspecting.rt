@@ -1,20 +1,14 @@
 //! Says what a log was found to say, and reads alone.
-ghost use Rattle.std.specs.Prelude.{◌≡◌, ◌⊎◌, ◌≤◌, ◌<◌, ℕ, List, Some, None, length, OnOk, IfOk, IfErr, IfSome};
-ghost use Rattle.std.specs.Result.{IsErrAnd};
-ghost use Rattle.cell_format.specs.declared.cell.Cell.{Cell};
-ghost use Rattle.log_state.specs.Recovers.{Recovers};
-ghost use Rattle.recovery.specs.declared.seen.OpenFault.{OpenFault};
-ghost use Rattle.recovery.specs.Faults.{IsFault, IsInBytes};
-ghost use Rattle.recovery.specs.Reading.{FailsOn, ReadsAll, OnlyReads, IsFoundFor};
-ghost use Rattle.recovery.specs.Found.{IsFound, IsFree};
+ghost use Rattle.std.specs.Prelude.{◌≡◌, ◌⊎◌, ◌≤◌, ◌<◌, Some, None, OnOk, IfOk, IfErr, IfSome};
+ghost use Rattle.recovery.specs.Faults.{RefusesRead, ShowsFault};
+ghost use Rattle.recovery.specs.Reading.{FailsOn, ReadsAll, OnlyReads, FindsWanted, IsFoundFor};
 ghost use Rattle.zorder.specs.Width.{IsWidth};
-ghost use Rattle.recovery.specs.Widths.{IsWidthOf, IsLogFault, ShowsFault};
-ghost use Rattle.recovery.specs.Wanted.{IsFaultFor, MayTell, MayTellFor, MayTellLog};
+ghost use Rattle.recovery.specs.Wanted.{MayTell};
 
-use crate::heads::FIRST;
 use crate::reading::Reading;
 use crate::room::Room;
 use crate::seen::{OpenFault, Seen, SeenLog};
+use crate::wanted::{FIRST, Wanted};
 use disk_trait::LogDisk;
 use std::alloc::Global;
 
@@ -26,17 +20,19 @@ pub(crate) struct Found {
     pub(crate) len: u64,
 }
 
-/// The state after the cells of a log of version 1 or 2, where there are at most `most`, and the width of its splits, which its head names.
-pub fn inspect_log<D: LogDisk>(alloc: Global, disk: &mut D, most: u64) -> Result<SeenLog, OpenFault>
-    ensures found { IfOk result (λ l. IsWidthOf (D.drive disk.old) l.width × IsFound 1 l.width most (D.drive disk.old) l.seen) }
-    ensures fault { IfErr result (λ e. ShowsFault 1 most (D.drive disk.old) e × MayTellLog 1 most e) }
-    ensures exact { (bytes : List ℕ) (fault : OpenFault) → (D.drive disk.old).bytes ≡ Some bytes → IsInBytes fault
-        → IsLogFault 1 most bytes fault → IsErrAnd result (λ e. (e ≡ fault) ⊎ IsFree (D.drive disk.old) (D.drive disk.new) e) }
-    ensures whole { (w : ℕ) (bytes : List ℕ) (cells : List Cell) → IsWidth w → (D.drive disk.old).bytes ≡ Some bytes
-        → Recovers w cells bytes → length cells ≤ most → IfErr result (IsFree (D.drive disk.old) (D.drive disk.new)) }
+/// The state after the cells of a log of version 1 or 2 that is wanted, and the width of its splits, which its head names.
+pub fn inspect_log<D: LogDisk>(
+    alloc: Global,
+    disk: &mut D,
+    wanted: Wanted,
+) -> Result<SeenLog, OpenFault>
+    requires width { IfSome wanted.width IsWidth }
+
+    ensures found { IfOk result (λ l. FindsWanted 1 wanted.width wanted.most (D.drive disk.old) l.width l.seen) }
+    ensures refused { IfErr result (RefusesRead 1 wanted.width wanted.most (D.drive disk.old) (D.drive disk.new)) }
     ensures reads { OnlyReads (D.drive disk.old) (D.drive disk.new) result }
 {
-    let found = read_log(alloc, disk, FIRST, None, most)?;
+    let found = read_log(alloc, disk, FIRST, wanted)?;
     Ok(SeenLog {
         seen: found.seen,
         width: found.width,
@@ -52,16 +48,12 @@ pub fn inspect<D: LogDisk>(
 ) -> Result<Seen, OpenFault>
     requires width { IsWidth width }
 
-    ensures found { IfOk result (IsFound 1 width most (D.drive disk.old)) }
-    ensures fault { IfErr result (λ e. (bytes : List ℕ) → (D.drive disk.old).bytes ≡ Some bytes → IsFault 1 width most bytes e) }
-    ensures may { IfErr result (MayTell 1 width most) }
-    ensures exact { (bytes : List ℕ) (fault : OpenFault) → (D.drive disk.old).bytes ≡ Some bytes → IsInBytes fault
-        → IsFault 1 width most bytes fault → IsErrAnd result (λ e. (e ≡ fault) ⊎ IsFree (D.drive disk.old) (D.drive disk.new) e) }
-    ensures whole { (bytes : List ℕ) (cells : List Cell) → (D.drive disk.old).bytes ≡ Some bytes → Recovers width cells bytes
-        → length cells ≤ most → IfErr result (IsFree (D.drive disk.old) (D.drive disk.new)) }
+    ensures found { IfOk result (FindsWanted 1 (Some width) most (D.drive disk.old) width) }
+    ensures refused { IfErr result (RefusesRead 1 (Some width) most (D.drive disk.old) (D.drive disk.new)) }
     ensures reads { OnlyReads (D.drive disk.old) (D.drive disk.new) result }
 {
-    let found = read_log(alloc, disk, FIRST, Some(width), most)?;
+    let width = Some(width);
+    let found = inspect_log(alloc, disk, Wanted { width, most })?;
     Ok(found.seen)
 }
 
@@ -70,18 +62,17 @@ pub(crate) fn read_log<D: LogDisk>(
     alloc: Global,
     disk: &mut D,
     oldest: u8,
-    wanted: Option<u8>,
-    most: u64,
+    wanted: Wanted,
 ) -> Result<Found, OpenFault>
     requires oldest { 1 ≤ oldest }
-    requires width { IfSome wanted IsWidth }
+    requires width { IfSome wanted.width IsWidth }
 
-    ensures found { IfOk result (λ f. IsFoundFor oldest wanted most (D.drive disk.old) f.width f.seen f.len) }
-    ensures fault { IfErr result (λ e. (bytes : List ℕ) → (D.drive disk.old).bytes ≡ Some bytes → IsFaultFor oldest wanted most bytes e) }
-    ensures may { IfErr result (MayTellFor oldest wanted most) }
+    ensures found { IfOk result (λ f. IsFoundFor oldest wanted.width wanted.most (D.drive disk.old) f.width f.seen f.len) }
+    ensures fault { IfErr result (ShowsFault oldest wanted.width wanted.most (D.drive disk.old)) }
+    ensures may { IfErr result (MayTell oldest wanted.width wanted.most) }
     ensures reads { OnlyReads (D.drive disk.old) (D.drive disk.new) result }
 {
-    let mut reading = Reading::start(alloc, disk, oldest, wanted, most)?;
+    let mut reading = Reading::start(alloc, disk, oldest, wanted)?;
     read_cells(&mut reading, disk)?;
     let mut room = Room::new(alloc);
     reading.make_room(&mut room)?;

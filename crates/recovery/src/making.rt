@@ -4,7 +4,8 @@ ghost use Rattle.zorder.specs.Width.{IsWidth};
 ghost use Rattle.cell_format.specs.Spelling.{newest, header_text};
 ghost use Rattle.recovery.specs.Making.{Makes, RefusesInit, KeepsSmall};
 
-use crate::seen::{InitFault, InitRefused, NEWEST};
+use crate::seen::{InitFault, InitRefused};
+use crate::wanted::NEWEST;
 use cell_format::header;
 use disk_trait::LogDisk;
 

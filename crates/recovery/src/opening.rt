@@ -1,112 +1,39 @@
 //! Opens a log for appends.
-ghost use Rattle.std.specs.Prelude.{◌≡◌, ◌⊎◌, ◌≤◌, ◌+◌, ◌*◌, ℕ, List, Some, None, is_some, take, length, slice_index, OnOk, IfOk, IfErr, IfSome, MatchResult};
-ghost use Rattle.std.specs.Result.{IsErrAnd};
-ghost use Rattle.recovery.specs.declared.seen.OpenFault.{OpenFault};
-ghost use Rattle.causes.specs.Causes.{Rose};
+ghost use Rattle.std.specs.Prelude.{◌≡◌, ◌⊎◌, ◌≤◌, ◌+◌, ◌*◌, ℕ, List, Some, None, is_some, take, length, OnOk, IfOk, IfErr, IfSome, MatchResult};
 ghost use Rattle.cell_format.specs.declared.cell.Cell.{Cell};
-ghost use Rattle.cell_format.specs.Spelling.{newest};
 ghost use Rattle.disk_trait.specs.Drive.{Only, CountsFaults};
 ghost use Rattle.disk_trait.specs.Moments.{LeavesNow, LeavesOnly};
 ghost use Rattle.log_state.specs.Recovers.{Recovers};
 ghost use Rattle.split_log.specs.LogView.{most_cells};
-ghost use Rattle.recovery.specs.Faults.{IsFault, IsInBytes};
-ghost use Rattle.recovery.specs.Found.{IsFound, IsFree};
-ghost use Rattle.recovery.specs.Opening.{KeepsCells, KeepsNewest, CallsToCut, LeavesUnopened, IsReady, OpensByHead, RefusesLog, RefusesFor, KeepsStanding};
+ghost use Rattle.recovery.specs.Opening.{KeepsNewest, KeepsStanding, CallsToCut, OpensWanted, RefusesWanted};
 ghost use Rattle.zorder.specs.Width.{IsWidth};
-ghost use Rattle.recovery.specs.Widths.{IsLogFault};
-ghost use Rattle.recovery.specs.Wanted.{IsWidthFor, IsFaultFor, MayTell};
 
 use crate::inspecting::read_log;
-use crate::seen::{NEWEST, OpenFault, OpenRefused, Opened, OpenedLog, SeenLog};
+use crate::seen::{OpenFault, OpenRefused, Opened, OpenedLog, SeenLog};
+use crate::wanted::{NEWEST, Wanted};
 use disk_trait::{DiskFault, LogDisk};
 use split_log::{CELL_BYTES, HEADER_BYTES, SplitLog};
 use std::alloc::Global;
 use std::snapshot::Snapshot;
 
-/// Opens a log of version 2 by the width that its head names, where it has at most `most` cells, and cuts off what stands behind its
-/// last commit byte.
+/// Opens a log of version 2 that is wanted, by the width that its head names, and cuts off what stands behind its last commit byte.
 pub fn open_log<D: LogDisk>(
     alloc: Global,
-    disk: D,
-    most: u64,
-) -> Result<OpenedLog<D>, OpenRefused<D>>
-    requires few { most ≤ most_cells }
-
-    ensures opened { IfOk result (λ o. OpensByHead most (D.drive disk) (D.drive o.opened.log.disk) o.width o.opened.seen) }
-    ensures log { IfOk result (λ o. (o.opened.log.cells ≡ o.opened.seen.cells) × (o.opened.log.failed ≡ None)) }
-    ensures start { IfOk result (λ o. o.opened.start.value ≡ disk) }
-    ensures refused { IfErr result (λ e. RefusesLog most (D.drive disk) (D.drive e.disk) e.cause) }
-    ensures exact { (bytes : List ℕ) (fault : OpenFault) → (D.drive disk).bytes ≡ Some bytes → IsInBytes fault
-        → IsLogFault newest most bytes fault → IsErrAnd result (λ e. (e.cause ≡ fault) ⊎ IsFree (D.drive disk) (D.drive e.disk) e.cause) }
-    ensures whole { (w : ℕ) (bytes : List ℕ) (cells : List Cell) → IsWidth w → (D.drive disk).bytes ≡ Some bytes
-        → Recovers w cells bytes → slice_index bytes 8 ≡ newest → length cells ≤ most
-        → IfErr result (λ e. IsFree (D.drive disk) (D.drive e.disk) e.cause) }
-    ensures any_moment { MatchResult result (λ o. KeepsStanding (D.drive disk) (D.drive o.opened.log.disk))
-        (λ e. KeepsStanding (D.drive disk) (D.drive e.disk)) }
-{
-    open_wanted(alloc, disk, None, most)
-}
-
-/// The same of a log whose splits make `2 ^ width` children.
-pub fn open<D: LogDisk>(
-    alloc: Global,
-    disk: D,
-    width: u8,
-    most: u64,
-) -> Result<Opened<D>, OpenRefused<D>>
-    requires width { IsWidth width }
-    requires few { most ≤ most_cells }
-
-    ensures found { IfOk result (λ o. IsFound newest width most (D.drive disk) o.seen) }
-    ensures version { IfOk result (λ o. o.seen.version ≡ newest) }
-    ensures ready { IfOk result (λ o. IsReady width o.seen (D.drive disk) (D.drive o.log.disk)) }
-    ensures log { IfOk result (λ o. (o.log.cells ≡ o.seen.cells) × (o.log.failed ≡ None)) }
-    ensures start { IfOk result (λ o. o.start.value ≡ disk) }
-    ensures fault { IfErr result (λ e. (bytes : List ℕ) → (D.drive disk).bytes ≡ Some bytes → IsFault newest width most bytes e.cause) }
-    ensures exact { (bytes : List ℕ) (fault : OpenFault) → (D.drive disk).bytes ≡ Some bytes → IsInBytes fault
-        → IsFault newest width most bytes fault → IsErrAnd result (λ e. (e.cause ≡ fault) ⊎ IsFree (D.drive disk) (D.drive e.disk) e.cause) }
-    ensures whole { (bytes : List ℕ) (cells : List Cell) → (D.drive disk).bytes ≡ Some bytes → Recovers width cells bytes
-        → slice_index bytes 8 ≡ newest → length cells ≤ most → IfErr result (λ e. IsFree (D.drive disk) (D.drive e.disk) e.cause) }
-    ensures may { IfErr result (λ e. MayTell newest width most e.cause) }
-    ensures untouched { IfErr result (λ e. LeavesUnopened width most (D.drive disk) (D.drive e.disk) e.cause) }
-    ensures any_moment { MatchResult result (λ o. KeepsCells width (D.drive disk) (D.drive o.log.disk))
-        (λ e. KeepsCells width (D.drive disk) (D.drive e.disk)) }
-    ensures rose { IfErr result (λ e. e.cause ≡ OpenFault.Disk → Rose (D.drive disk).faults (D.drive e.disk).faults) }
-    ensures later { MatchResult result (λ o. (D.drive disk).faults ≤ (D.drive o.log.disk).faults)
-        (λ e. (D.drive disk).faults ≤ (D.drive e.disk).faults) }
-{
-    match open_wanted(alloc, disk, Some(width), most) {
-        Ok(log) => Ok(log.opened),
-        Err(refused) => Err(refused),
-    }
-}
-
-// Opens a log that is wanted.
-fn open_wanted<D: LogDisk>(
-    alloc: Global,
     mut disk: D,
-    wanted: Option<u8>,
-    most: u64,
+    wanted: Wanted,
 ) -> Result<OpenedLog<D>, OpenRefused<D>>
-    requires width { IfSome wanted IsWidth }
-    requires few { most ≤ most_cells }
+    requires width { IfSome wanted.width IsWidth }
+    requires few { wanted.most ≤ most_cells }
 
-    ensures opened { IfOk result (λ o. IsWidthFor wanted o.width
-        × OpensByHead most (D.drive disk) (D.drive o.opened.log.disk) o.width o.opened.seen) }
+    ensures opened { IfOk result (λ o. OpensWanted wanted.width wanted.most (D.drive disk) (D.drive o.opened.log.disk) o.width o.opened.seen) }
     ensures log { IfOk result (λ o. (o.opened.log.cells ≡ o.opened.seen.cells) × (o.opened.log.failed ≡ None)) }
     ensures start { IfOk result (λ o. o.opened.start.value ≡ disk) }
-    ensures refused { IfErr result (λ e. RefusesFor wanted most (D.drive disk) (D.drive e.disk) e.cause) }
-    ensures exact { (bytes : List ℕ) (fault : OpenFault) → (D.drive disk).bytes ≡ Some bytes → IsInBytes fault
-        → IsFaultFor newest wanted most bytes fault
-        → IsErrAnd result (λ e. (e.cause ≡ fault) ⊎ IsFree (D.drive disk) (D.drive e.disk) e.cause) }
-    ensures whole { (w : ℕ) (bytes : List ℕ) (cells : List Cell) → IsWidthFor wanted w → IsWidth w → (D.drive disk).bytes ≡ Some bytes
-        → Recovers w cells bytes → slice_index bytes 8 ≡ newest → length cells ≤ most
-        → IfErr result (λ e. IsFree (D.drive disk) (D.drive e.disk) e.cause) }
+    ensures refused { IfErr result (λ e. RefusesWanted wanted.width wanted.most (D.drive disk) (D.drive e.disk) e.cause) }
     ensures any_moment { MatchResult result (λ o. KeepsStanding (D.drive disk) (D.drive o.opened.log.disk))
         (λ e. KeepsStanding (D.drive disk) (D.drive e.disk)) }
 {
     let start = Snapshot::of(&disk);
-    match settle(alloc, &mut disk, wanted, most) {
+    match settle(alloc, &mut disk, wanted) {
         Ok(found) => Ok(OpenedLog {
             opened: Opened {
                 log: SplitLog::adopt(disk, found.seen.cells),
@@ -119,22 +46,41 @@ fn open_wanted<D: LogDisk>(
     }
 }
 
-/// Leaves a log that is wanted alone in the file, synced.
-fn settle<D: LogDisk>(
+/// The same of a log whose splits make `2 ^ width` children.
+pub fn open<D: LogDisk>(
     alloc: Global,
-    disk: &mut D,
-    wanted: Option<u8>,
+    disk: D,
+    width: u8,
     most: u64,
-) -> Result<SeenLog, OpenFault>
-    requires width { IfSome wanted IsWidth }
+) -> Result<Opened<D>, OpenRefused<D>>
+    requires width { IsWidth width }
+    requires few { most ≤ most_cells }
 
-    ensures opened { IfOk result (λ l. IsWidthFor wanted l.width × OpensByHead most (D.drive disk.old) (D.drive disk.new) l.width l.seen) }
-    ensures refused { IfErr result (RefusesFor wanted most (D.drive disk.old) (D.drive disk.new)) }
+    ensures opened { IfOk result (λ o. OpensWanted (Some width) most (D.drive disk) (D.drive o.log.disk) width o.seen) }
+    ensures log { IfOk result (λ o. (o.log.cells ≡ o.seen.cells) × (o.log.failed ≡ None)) }
+    ensures start { IfOk result (λ o. o.start.value ≡ disk) }
+    ensures refused { IfErr result (λ e. RefusesWanted (Some width) most (D.drive disk) (D.drive e.disk) e.cause) }
+    ensures any_moment { MatchResult result (λ o. KeepsStanding (D.drive disk) (D.drive o.log.disk))
+        (λ e. KeepsStanding (D.drive disk) (D.drive e.disk)) }
+{
+    let width = Some(width);
+    match open_log(alloc, disk, Wanted { width, most }) {
+        Ok(log) => Ok(log.opened),
+        Err(refused) => Err(refused),
+    }
+}
+
+/// Leaves a log that is wanted alone in the file, synced.
+fn settle<D: LogDisk>(alloc: Global, disk: &mut D, wanted: Wanted) -> Result<SeenLog, OpenFault>
+    requires width { IfSome wanted.width IsWidth }
+
+    ensures opened { IfOk result (λ l. OpensWanted wanted.width wanted.most (D.drive disk.old) (D.drive disk.new) l.width l.seen) }
+    ensures refused { IfErr result (RefusesWanted wanted.width wanted.most (D.drive disk.old) (D.drive disk.new)) }
     ensures any_moment { KeepsStanding (D.drive disk.old) (D.drive disk.new) }
 {
     // Synced first: what is read is then what a crash leaves.
     disk.sync()?;
-    let found = read_log(alloc, disk, NEWEST, wanted, most)?;
+    let found = read_log(alloc, disk, NEWEST, wanted)?;
     let end = HEADER_BYTES + 1 + CELL_BYTES * found.seen.cells;
     cut_behind(disk, end, found.len)?;
     Ok(SeenLog {

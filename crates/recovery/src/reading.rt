@@ -1,11 +1,10 @@
 //! Reads the cells of a log one by one, in pieces.
 ghost use Rattle.std.specs.Prelude.{◌≡◌, ◌≤◌, ◌+◌, ◌-◌, ◌*◌, ◌<◌, ℕ, List, Some, false, take, drop, min, length, OnOk, IfOk, IfErr, IfSome};
 ghost use Rattle.disk_trait.specs.Drive.{Stays, CountsFaults};
-ghost use Rattle.recovery.specs.Faults.{IsInBytes};
+ghost use Rattle.recovery.specs.Faults.{IsInBytes, IsOfHead, ShowsFault};
 ghost use Rattle.recovery.specs.Reading.{StartsFor, IsBehind, Advances, WalksOn, IsFilled, IsEmptied, NeedsNoPiece, Stops, IsSeenOf, OnlyReads, ReadsPiece};
-ghost use Rattle.recovery.specs.Walks.{IsOfHead};
 ghost use Rattle.zorder.specs.Width.{IsWidth};
-ghost use Rattle.recovery.specs.Wanted.{IsFaultFor, MayTellFor};
+ghost use Rattle.recovery.specs.Wanted.{MayTell};
 ghost use Rattle.recovery.specs.Room.{IsNoLess, HasRoom, HasRoomForMore};
 
 use crate::heads::read_wanted;
@@ -14,6 +13,7 @@ use crate::replay::Replay;
 use crate::room::Room;
 use crate::seen::{OpenFault, Seen};
 use crate::walked::Walked;
+use crate::wanted::Wanted;
 use cell_format::Cause;
 use disk_trait::{DiskFault, LogDisk};
 use split_log::{CELL_BYTES, HEADER_BYTES};
@@ -55,19 +55,18 @@ impl Reading {
         alloc: Global,
         disk: &mut D,
         oldest: u8,
-        wanted: Option<u8>,
-        most: u64,
+        wanted: Wanted,
     ) -> Result<Reading, OpenFault>
         requires oldest { 1 ≤ oldest }
-        requires width { IfSome wanted IsWidth }
+        requires width { IfSome wanted.width IsWidth }
 
-        ensures ok { IfOk result (StartsFor oldest wanted most (D.drive disk.old)) }
-        ensures err { IfErr result (λ e. (xs : List ℕ) → (D.drive disk.old).bytes ≡ Some xs → IsFaultFor oldest wanted most xs e) }
-        ensures head { IfErr result (λ e. IsOfHead e × MayTellFor oldest wanted most e) }
+        ensures ok { IfOk result (StartsFor oldest wanted.width wanted.most (D.drive disk.old)) }
+        ensures err { IfErr result (ShowsFault oldest wanted.width wanted.most (D.drive disk.old)) }
+        ensures head { IfErr result (λ e. IsOfHead e × MayTell oldest wanted.width wanted.most e) }
         ensures reads { OnlyReads (D.drive disk.old) (D.drive disk.new) result }
     {
         let len = disk.len()?;
-        let head = read_wanted(disk, len, oldest, wanted)?;
+        let head = read_wanted(disk, len, oldest, wanted.width)?;
         let replay = Replay::new(alloc, head.version, head.width)?;
         let buffer = vec![in alloc; 0; PIECE]?;
         Ok(Reading {
@@ -76,7 +75,7 @@ impl Reading {
             at: 0,
             filled: 0,
             number: 0,
-            most,
+            most: wanted.most,
             len,
         })
     }

@@ -1,23 +1,21 @@
 //! Walks over the cells of a log.
 ghost use Rattle.std.specs.Prelude.{◌≡◌, ◌⊎◌, ◌≤◌, ℕ, List, [], length, Some, Ok, Err, slice_index, IfOk, IfErr, IfSome, MatchResult};
-ghost use Rattle.std.specs.Result.{IsErrAnd};
 ghost use Rattle.cell_format.specs.declared.cell.Cell.{Cell};
 ghost use Rattle.log_state.specs.Recovers.{Recovers};
 ghost use Rattle.recovery.specs.declared.seen.OpenFault.{OpenFault};
-ghost use Rattle.recovery.specs.Faults.{IsFault, IsInBytes};
-ghost use Rattle.recovery.specs.Found.{Finds, IsWanted, IsFree};
+ghost use Rattle.recovery.specs.Faults.{IsFault, IsInBytes, IsOfHead, ShowsFault};
+ghost use Rattle.recovery.specs.Found.{Finds, IsWanted};
 ghost use Rattle.recovery.specs.Reading.{StartsFor, OnlyReads};
 ghost use Rattle.recovery.specs.Room.{HasRoom};
-ghost use Rattle.recovery.specs.Walks.{ComesTo, ComesAlong, RefusesWalk, TellsWalked, TellsFault, TellsAll, IsOfHead};
+ghost use Rattle.recovery.specs.Walks.{BeginsWalk, ComesTo, RefusesWalk, TellsWalked, TellsFault, TellsAll};
 ghost use Rattle.zorder.specs.Width.{IsWidth};
-ghost use Rattle.recovery.specs.Widths.{HasWidth, IsLogFault, ShowsFault};
-ghost use Rattle.recovery.specs.Wanted.{IsWidthFor, IsFaultFor, MayTell, MayTellLog};
+ghost use Rattle.recovery.specs.Wanted.{MayTell};
 
-use crate::heads::FIRST;
 use crate::reading::Reading;
 use crate::room::Room;
 use crate::seen::{OpenFault, OpenRefused, Seen};
 use crate::walked::Walked;
+use crate::wanted::{FIRST, Wanted};
 use disk_trait::LogDisk;
 use std::alloc::Global;
 use std::marker::Model;
@@ -49,58 +47,16 @@ pub struct WalkEnd<D: Drop> {
 }
 
 impl<D: LogDisk> Walk<D> {
-    /// Begins before the first cell of a log of version 1 or 2, by the width that its head names, where there may be at most `most` cells.
-    pub fn along(alloc: Global, disk: D, most: u64) -> Result<Walk<D>, OpenRefused<D>>
-        ensures begins { IfOk result (λ w. ComesAlong w.reading.replay.width most [] (D.drive w.disk) w) }
-        ensures fault { IfErr result (λ e. ShowsFault 1 most (D.drive disk) e.cause × IsOfHead e.cause × MayTellLog 1 most e.cause) }
-        ensures exact { (bytes : List ℕ) (fault : OpenFault) → (D.drive disk).bytes ≡ Some bytes → IsInBytes fault → IsOfHead fault
-            → IsLogFault 1 most bytes fault
-            → IsErrAnd result (λ e. (e.cause ≡ fault) ⊎ IsFree (D.drive disk) (D.drive e.disk) e.cause) }
-        ensures whole { (bytes : List ℕ) (w : ℕ) → (D.drive disk).bytes ≡ Some bytes → HasWidth w bytes
-            → IfErr result (λ e. IsFree (D.drive disk) (D.drive e.disk) e.cause) }
+    /// Begins before the first cell of a log of version 1 or 2 that is wanted, by the width that its head names.
+    pub fn along(alloc: Global, mut disk: D, wanted: Wanted) -> Result<Walk<D>, OpenRefused<D>>
+        requires width { IfSome wanted.width IsWidth }
+
+        ensures begins { IfOk result (λ w. BeginsWalk wanted.width wanted.most w.reading.replay.width (D.drive disk) (D.drive w.disk) w) }
+        ensures refused { IfErr result (λ e. RefusesWalk wanted.width wanted.most (D.drive disk) (D.drive e.disk) e.cause) }
         ensures reads { MatchResult result (λ w. OnlyReads {T = Unit {0}} (D.drive disk) (D.drive w.disk) (Ok tt))
             (λ e. OnlyReads {T = Unit {0}} (D.drive disk) (D.drive e.disk) (Err e.cause)) }
     {
-        Walk::begin(alloc, disk, None, most)
-    }
-
-    /// The same in a log whose splits make `2 ^ width` children.
-    pub fn start(alloc: Global, disk: D, width: u8, most: u64) -> Result<Walk<D>, OpenRefused<D>>
-        requires width { IsWidth width }
-
-        ensures begins { IfOk result (λ w. ComesTo width most [] (D.drive w.disk) w) }
-        ensures fault { IfErr result (λ e. (bytes : List ℕ) → (D.drive disk).bytes ≡ Some bytes → IsFault 1 width most bytes e.cause) }
-        ensures head { IfErr result (λ e. IsOfHead e.cause) }
-        ensures may { IfErr result (λ e. MayTell 1 width most e.cause) }
-        ensures exact { (bytes : List ℕ) (fault : OpenFault) → (D.drive disk).bytes ≡ Some bytes → IsInBytes fault → IsOfHead fault
-            → IsFault 1 width most bytes fault → IsErrAnd result (λ e. (e.cause ≡ fault) ⊎ IsFree (D.drive disk) (D.drive e.disk) e.cause) }
-        ensures reads { MatchResult result (λ w. OnlyReads {T = Unit {0}} (D.drive disk) (D.drive w.disk) (Ok tt))
-            (λ e. OnlyReads {T = Unit {0}} (D.drive disk) (D.drive e.disk) (Err e.cause)) }
-    {
-        Walk::begin(alloc, disk, Some(width), most)
-    }
-
-    // The same in a log that is wanted.
-    fn begin(
-        alloc: Global,
-        mut disk: D,
-        wanted: Option<u8>,
-        most: u64,
-    ) -> Result<Walk<D>, OpenRefused<D>>
-        requires width { IfSome wanted IsWidth }
-
-        ensures begins { IfOk result (λ w. IsWidthFor wanted w.reading.replay.width
-            × ComesAlong w.reading.replay.width most [] (D.drive w.disk) w) }
-        ensures fault { IfErr result (λ e. RefusesWalk wanted most (D.drive disk) e.cause) }
-        ensures exact { (bytes : List ℕ) (fault : OpenFault) → (D.drive disk).bytes ≡ Some bytes → IsInBytes fault → IsOfHead fault
-            → IsFaultFor 1 wanted most bytes fault
-            → IsErrAnd result (λ e. (e.cause ≡ fault) ⊎ IsFree (D.drive disk) (D.drive e.disk) e.cause) }
-        ensures whole { (bytes : List ℕ) (w : ℕ) → (D.drive disk).bytes ≡ Some bytes → IsWidthFor wanted w → HasWidth w bytes
-            → IfErr result (λ e. IsFree (D.drive disk) (D.drive e.disk) e.cause) }
-        ensures reads { MatchResult result (λ w. OnlyReads {T = Unit {0}} (D.drive disk) (D.drive w.disk) (Ok tt))
-            (λ e. OnlyReads {T = Unit {0}} (D.drive disk) (D.drive e.disk) (Err e.cause)) }
-    {
-        match read_first(alloc, &mut disk, wanted, most) {
+        match read_first(alloc, &mut disk, wanted) {
             Ok((reading, room)) => Ok(Walk {
                 disk,
                 reading,
@@ -108,6 +64,19 @@ impl<D: LogDisk> Walk<D> {
             }),
             Err(cause) => Err(OpenRefused { disk, cause }),
         }
+    }
+
+    /// The same in a log whose splits make `2 ^ width` children.
+    pub fn start(alloc: Global, disk: D, width: u8, most: u64) -> Result<Walk<D>, OpenRefused<D>>
+        requires width { IsWidth width }
+
+        ensures begins { IfOk result (λ w. BeginsWalk (Some width) most width (D.drive disk) (D.drive w.disk) w) }
+        ensures refused { IfErr result (λ e. RefusesWalk (Some width) most (D.drive disk) (D.drive e.disk) e.cause) }
+        ensures reads { MatchResult result (λ w. OnlyReads {T = Unit {0}} (D.drive disk) (D.drive w.disk) (Ok tt))
+            (λ e. OnlyReads {T = Unit {0}} (D.drive disk) (D.drive e.disk) (Err e.cause)) }
+    {
+        let width = Some(width);
+        Walk::along(alloc, disk, Wanted { width, most })
     }
 
     /// The width of the log's splits.
@@ -125,7 +94,7 @@ impl<D: LogDisk> Walk<D> {
             → TellsWalked w most cells (D.drive self.old.disk) (D.drive self.new.disk) self.new result }
         ensures exact { (w most : ℕ) (cells : List Cell) (bytes : List ℕ) (fault : OpenFault)
             → ComesTo w most cells (D.drive self.old.disk) self.old → (D.drive self.old.disk).bytes ≡ Some bytes → IsInBytes fault
-            → IsFault 1 w most bytes fault → TellsFault fault (D.drive self.old.disk) (D.drive self.new.disk) result }
+            → IsFault 1 (Some w) most bytes fault → TellsFault fault (D.drive self.old.disk) (D.drive self.new.disk) result }
         ensures whole { (w most : ℕ) (all cells : List Cell) (bytes : List ℕ)
             → ComesTo w most cells (D.drive self.old.disk) self.old → (D.drive self.old.disk).bytes ≡ Some bytes → Recovers w all bytes
             → length all ≤ most → TellsAll all cells (D.drive self.old.disk) (D.drive self.new.disk) result }
@@ -159,16 +128,16 @@ impl<D: LogDisk> Walk<D> {
 fn read_first<D: LogDisk>(
     alloc: Global,
     disk: &mut D,
-    wanted: Option<u8>,
-    most: u64,
+    wanted: Wanted,
 ) -> Result<(Reading, Room), OpenFault>
-    requires width { IfSome wanted IsWidth }
+    requires width { IfSome wanted.width IsWidth }
 
-    ensures starts { IfOk result (λ r. StartsFor 1 wanted most (D.drive disk.old) r.0 × HasRoom r.0.replay.state r.1) }
-    ensures fault { IfErr result (RefusesWalk wanted most (D.drive disk.old)) }
+    ensures starts { IfOk result (λ r. StartsFor 1 wanted.width wanted.most (D.drive disk.old) r.0 × HasRoom r.0.replay.state r.1) }
+    ensures fault { IfErr result (ShowsFault 1 wanted.width wanted.most (D.drive disk.old)) }
+    ensures head { IfErr result (λ e. IsOfHead e × MayTell 1 wanted.width wanted.most e) }
     ensures reads { OnlyReads (D.drive disk.old) (D.drive disk.new) result }
 {
-    let reading = Reading::start(alloc, disk, FIRST, wanted, most)?;
+    let reading = Reading::start(alloc, disk, FIRST, wanted)?;
     let mut room = Room::new(alloc);
     reading.make_room(&mut room)?;
     Ok((reading, room))

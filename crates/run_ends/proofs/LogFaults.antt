@@ -1,18 +1,18 @@
 -- Why a log isn't read that was attached first.
-use Rattle.std.proofs.Common.{◌≡◌, ◌⊎◌, inl, inr, ◌∙◌, ℕ, ◌≤◌, List, Some, refl, ap, subst}
+use Rattle.std.proofs.Common.{◌≡◌, ◌⊎◌, inl, inr, ◌∙◌, ℕ, ◌≤◌, List, Some, refl, ap, subst, None}
 use Rattle.causes.specs.Causes.{Rose}
 use Rattle.disk_trait.specs.Drive.{Drive, Stays}
-use Rattle.recovery.specs.Widths.{IsLogFault}
+use Rattle.recovery.specs.Faults.{IsFault}
 use Rattle.recovery.specs.Found.{IsFree}
 use Rattle.recovery.specs.declared.seen.OpenFault.{OpenFault}
 use Rattle.recovery.specs.declared.seen.OpenFault.TheVariants as open_fault
 use Rattle.recovery.proofs.OnlyReading.{rose-earlier}
 use Rattle.run_ends.specs.declared.refusals.Refusal.TheVariants as refusal
-use Rattle.run_ends.specs.LogFaults.{HasFault, IsReadingCause, MayTellLog, log_refusal}
+use Rattle.run_ends.specs.LogFaults.{HasFault, IsReadingCause, MayTell, log_refusal}
 
 -- why a log isn't read
-pub reading-after : (oldest most : ℕ) (a b c : Drive) (cause : OpenFault) → Stays a b → a.faults ≤ b.faults → ((bytes : List ℕ) → b.bytes ≡ Some bytes → IsLogFault oldest most bytes cause)
-    → MayTellLog oldest most cause → (cause ≡ open_fault.Disk → Rose b.faults c.faults) → IsReadingCause oldest most a c (log_refusal cause)
+pub reading-after : (oldest most : ℕ) (a b c : Drive) (cause : OpenFault) → Stays a b → a.faults ≤ b.faults → ((bytes : List ℕ) → b.bytes ≡ Some bytes → IsFault oldest None most bytes cause)
+    → MayTell oldest None most cause → (cause ≡ open_fault.Disk → Rose b.faults c.faults) → IsReadingCause oldest most a c (log_refusal cause)
 reading-after oldest most a b c open_fault.NotLog stays later wrong may rose = ((λ bytes told. wrong bytes (stays.bytes ∙ told)), may)
 reading-after oldest most a b c (open_fault.OldLog version width) stays later wrong may rose = ((λ bytes told. wrong bytes (stays.bytes ∙ told)), may)
 reading-after oldest most a b c (open_fault.Damaged cell cause) stays later wrong may rose = ((λ bytes told. wrong bytes (stays.bytes ∙ told)), may)

@@ -4,8 +4,8 @@ use Rattle.causes.specs.Causes.{Rose}
 use Rattle.disk_trait.specs.Drive.{Drive}
 use Rattle.disk_trait.specs.declared.disk.AttachFault.{AttachFault}
 use Rattle.disk_trait.specs.declared.disk.AttachFault.TheVariants as attach_fault
-pub use Rattle.recovery.specs.Widths.{ShowsFault}
-pub use Rattle.recovery.specs.Wanted.{MayTellLog}
+pub use Rattle.recovery.specs.Faults.{ShowsFault}
+pub use Rattle.recovery.specs.Wanted.{MayTell}
 use Rattle.recovery.specs.declared.seen.OpenFault.{OpenFault}
 use Rattle.recovery.specs.declared.seen.OpenFault.TheVariants as open_fault
 use Rattle.run_ends.specs.declared.refusals.Refusal.{Refusal}
@@ -27,7 +27,7 @@ log_refusal (open_fault.TooLong most) = refusal.LongLog
 
 -- this is at fault in the drive's bytes, where they are known, and where they aren't, it may be
 abbrev pub HasFault : ℕ → ℕ → Drive → OpenFault → Type 0
-HasFault oldest most drive e = ShowsFault oldest most drive e × MayTellLog oldest most e
+HasFault oldest most drive e = ShowsFault oldest None most drive e × MayTell oldest None most e
 
 -- why such a log isn't read: what is first at fault in its bytes, the drive's count rose, or memory ran out
 abbrev pub IsReadingCause : ℕ → ℕ → Drive → Drive → Refusal → Type 0

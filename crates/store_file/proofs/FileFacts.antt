@@ -21,13 +21,15 @@ use Rattle.recovery.specs.declared.seen.Seen.{Seen}
 use Rattle.recovery.specs.Faults.{IsFault, IsInBytes}
 use Rattle.recovery.specs.Found.{IsFound, IsFree, IsNewest}
 use Rattle.recovery.specs.Making.{IsSmall, Makes, RefusesInit, FailsToMake, KeepsSmall}
-use Rattle.recovery.specs.Opening.{IsUntouched, KeepsCells, LeavesUnopened}
+use Rattle.recovery.specs.Opening.{IsUntouched, KeepsCells, LeavesUnopened, RefusesWanted}
 use Rattle.recovery.specs.Wanted.{MayTell}
 use Rattle.recovery.proofs.CallLemmas.{well-none, well-then, stops-then, stops-refused, well-opened}
 use Rattle.recovery.proofs.Exclusive.{recovers_no_fault}
 use Rattle.recovery.proofs.HeadLemmas.{index_version}
 use Rattle.recovery.proofs.OnlyReading.{rose-earlier, stays-trans}
 use Rattle.recovery.proofs.OpeningLemmas.{leaves-trans, leaves-stays, newest_is}
+use Rattle.recovery.proofs.WantedLemmas.{newest_wanted}
+use Rattle.zorder.specs.Width.{IsWidth}
 use Rattle.kept_log.proofs.Starting.{leaves-log}
 use Rattle.store_file.specs.declared.faults.OpenCause.TheVariants.{Disk, Log, Memory}
 use Rattle.store_file.specs.Causes.{attach_cause, open_cause}
@@ -182,6 +184,11 @@ open-attached file a c (log.TooLong most) one = one
 open-attached file a c log.Disk one = one
 open-attached file a c log.Memory one = inl one
 
+-- where the bytes recover to few enough cells of the newest version, what is told of them is free
+pub opened-free : (w : ℕ) (b c : Drive) (why : OpenFault) → IsWidth w → RefusesWanted (Some w) most_cells b c why
+    → (bytes : List ℕ) (cells : List Cell) → b.bytes ≡ Some bytes → Recovers w cells bytes → IsNewest bytes → length cells ≤ most_cells → IsFree b c why
+opened-free w b c why known refused bytes cells told recovers named few = refused.fault.whole w bytes cells refl known told recovers (newest_wanted _ named) few
+
 -- what is opened behind that
 module _ (w : ℕ) (file : List ℕ) (a b c : Drive) (laws : KeepsLaws a) (readies : ReadiesLog w file a b) where
   up : a.faults ≤ b.faults
@@ -208,15 +215,15 @@ module _ (w : ℕ) (file : List ℕ) (a b c : Drive) (laws : KeepsLaws a) (readi
         let same = (readies.in_use good.bytes good.told long).bytes ∙ good.told in
         whole good.bytes is.0 same is.1 is.2 is.3) (small-free good.bytes good.told) (small-or-long good.bytes)) good.good
 
-    module _ (leaves : LeavesUnopened w most_cells b c why) where
+    module _ (leaves : LeavesUnopened (Some w) most_cells b c why) where
       -- a log of no cells shows no fault
-      small-shows : IsInBytes why → ((bytes : List ℕ) → b.bytes ≡ Some bytes → IsFault newest w most_cells bytes why) → (bytes : List ℕ) → a.bytes ≡ Some bytes → IsSmall bytes → ⊥
+      small-shows : IsInBytes why → ((bytes : List ℕ) → b.bytes ≡ Some bytes → IsFault newest (Some w) most_cells bytes why) → (bytes : List ℕ) → a.bytes ≡ Some bytes → IsSmall bytes → ⊥
       small-shows in_bytes fault bytes told is =
           let made = readies.small bytes told is in
           let named = no-cells-newest w b made in
           recovers_no_fault newest w most_cells (lit≤ tt) made.bytes [] why (no-cells-told w b made) (record { least = omega (arith, named); most = omega (arith, named) }) (lit≤ tt) in_bytes (fault made.bytes made.told)
 
-      shown : IsInBytes why → MayTell newest w most_cells why → ((bytes : List ℕ) → b.bytes ≡ Some bytes → IsFault newest w most_cells bytes why) → IsShown w a why
+      shown : IsInBytes why → MayTell newest (Some w) most_cells why → ((bytes : List ℕ) → b.bytes ≡ Some bytes → IsFault newest (Some w) most_cells bytes why) → IsShown w a why
       shown in_bytes may fault = record {
         in_bytes = in_bytes;
         may = may;
@@ -225,7 +232,7 @@ module _ (w : ℕ) (file : List ℕ) (a b c : Drive) (laws : KeepsLaws a) (readi
             (λ is. absurd (small-shows in_bytes fault bytes told is)) (small-or-long bytes);
       }
 
-      cause-of : MayTell newest w most_cells why → ((bytes : List ℕ) → b.bytes ≡ Some bytes → IsFault newest w most_cells bytes why) → (why ≡ log.Disk → Rose b.faults c.faults)
+      cause-of : MayTell newest (Some w) most_cells why → ((bytes : List ℕ) → b.bytes ≡ Some bytes → IsFault newest (Some w) most_cells bytes why) → (why ≡ log.Disk → Rose b.faults c.faults)
           → (e : OpenFault) → why ≡ e → IsCause w a c (open_cause e)
       cause-of may fault rose log.Disk is = rose-earlier a.faults b.faults c.faults up (rose is)
       cause-of may fault rose log.Memory is = tt
@@ -234,7 +241,7 @@ module _ (w : ℕ) (file : List ℕ) (a b c : Drive) (laws : KeepsLaws a) (readi
       cause-of may fault rose (log.Damaged cell cause) is = subst (IsShown w a) is (shown (subst IsInBytes (sym is) tt) may fault)
       cause-of may fault rose (log.TooLong most) is = subst (IsShown w a) is (shown (subst IsInBytes (sym is) tt) may fault)
 
-      pub open-refused : MayTell newest w most_cells why → ((bytes : List ℕ) → b.bytes ≡ Some bytes → IsFault newest w most_cells bytes why) → (why ≡ log.Disk → Rose b.faults c.faults)
+      pub open-refused : MayTell newest (Some w) most_cells why → ((bytes : List ℕ) → b.bytes ≡ Some bytes → IsFault newest (Some w) most_cells bytes why) → (why ≡ log.Disk → Rose b.faults c.faults)
           → KeepsCells w b c → b.faults ≤ c.faults → NotOpens w file a c (open_cause why)
       open-refused may fault rose keeps later = record {
         why = cause-of may fault rose why refl;

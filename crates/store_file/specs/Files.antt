@@ -52,7 +52,7 @@ pub record ShowsFault (w : ℕ) (drive : Drive) (fault : OpenFault) : Type 0 whe
   pub told : drive.bytes ≡ Some bytes
   pub in_use : 17 < length bytes
   pub in_bytes : IsInBytes fault
-  pub is : IsFault newest w most_cells bytes fault
+  pub is : IsFault newest (Some w) most_cells bytes fault
 
 -- they are few, so that a log is made of them, or recover to cells, few enough, in the newest version
 abbrev pub IsGoodFile : ℕ → List ℕ → Type 0

@@ -32,8 +32,8 @@ IsOfDrive Memory = ⊥
 -- A fault of a log: it is one that bytes show, and where the drive's are known, they are more than 17, and it is the first that they show.
 pub record IsShown (w : ℕ) (drive : Drive) (fault : OpenFault) : Type 0 where
   pub in_bytes : IsInBytes fault
-  pub may : MayTell newest w most_cells fault
-  pub shows : (bytes : List ℕ) → drive.bytes ≡ Some bytes → (17 < length bytes) × IsFault newest w most_cells bytes fault
+  pub may : MayTell newest (Some w) most_cells fault
+  pub shows : (bytes : List ℕ) → drive.bytes ≡ Some bytes → (17 < length bytes) × IsFault newest (Some w) most_cells bytes fault
 
 -- why there is no store over a file, where a bucket may have the size that was asked for
 abbrev pub IsCause : ℕ → Drive → Drive → OpenCause → Type 0

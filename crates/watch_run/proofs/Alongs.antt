@@ -72,7 +72,7 @@ module _ {D : Type 0} (w : ℕ) (fences : List Fence) (first after : Drive) (wal
     rose : e ≡ fault.Disk → Rose first.faults after.faults
     rose disk = reads.failed (ap (λ (f : OpenFault). Err f) disk)
 
-    behind-free : (f : OpenFault) → e ≡ f → IsBehind most_inspected (length led.cells) f → (bytes : List ℕ) → first.bytes ≡ Some bytes → IsFault oldest_read w most_inspected bytes f → IsCrowded fences bytes → IsFree first after f
+    behind-free : (f : OpenFault) → e ≡ f → IsBehind most_inspected (length led.cells) f → (bytes : List ℕ) → first.bytes ≡ Some bytes → IsFault oldest_read (Some w) most_inspected bytes f → IsCrowded fences bytes → IsFree first after f
     behind-free fault.NotLog same behind bytes told is crowd = absurd behind
     behind-free (fault.OldLog version width) same behind bytes told is crowd = absurd behind
     behind-free (fault.Damaged n why) same behind bytes told is crowd =

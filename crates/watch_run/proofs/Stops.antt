@@ -6,18 +6,18 @@ use Rattle.cell_format.specs.declared.cell.Cell.{Cell}
 use Rattle.log_state.specs.Recovers.{Recovers}
 use Rattle.recovery.specs.declared.seen.OpenFault.{OpenFault}
 use Rattle.recovery.specs.declared.seen.OpenFault.TheVariants as fault
-use Rattle.recovery.specs.Faults.{IsInBytes}
+use Rattle.recovery.specs.Faults.{IsInBytes, IsFault}
 use Rattle.recovery.specs.Found.{IsFree}
 use Rattle.recovery.specs.Reading.{OnlyReads}
-use Rattle.recovery.specs.Walks.{IsOfHead}
+use Rattle.recovery.specs.Walks.{RefusesWalk}
 use Rattle.zorder.specs.Width.{IsWidth}
-use Rattle.recovery.specs.Widths.{HasWidth, IsLogFault}
+use Rattle.recovery.specs.Widths.{HasWidth}
 use Rattle.recovery.proofs.OnlyReading.{stays-trans}
 use Rattle.recovery.proofs.WidthLemmas.{recovers_width}
 use Rattle.run_ends.specs.declared.refusals.Refusal.{Refusal}
 use Rattle.run_ends.specs.declared.refusals.Refusal.TheVariants as refusal
 use Rattle.run_ends.specs.Limits.{most_inspected, oldest_read}
-use Rattle.run_ends.specs.LogFaults.{HasFault, MayTellLog, ShowsFault, log_refusal}
+use Rattle.run_ends.specs.LogFaults.{HasFault, MayTell, ShowsFault, log_refusal}
 use Rattle.run_ends.proofs.LogFaults.{reading-after, calm-free, calm-named}
 use Rattle.log_run.specs.Checking.{IsCheckingCause}
 use Rattle.log_run.proofs.DriveSteps.{calm-read}
@@ -34,10 +34,10 @@ calm-trans a b c first second = record { stays = stays-trans a b c first.stays s
 
 -- a fault that a call tells which only reads, and what the bytes say of it
 pub record FailsAlong (fences : List Fence) (old new : Drive) (e : OpenFault) : Type 0 where
-  pub wrong : ShowsFault oldest_read most_inspected old e
-  pub may : MayTellLog oldest_read most_inspected e
+  pub wrong : ShowsFault oldest_read None most_inspected old e
+  pub may : MayTell oldest_read None most_inspected e
   pub crowd : (bytes : List ℕ) → old.bytes ≡ Some bytes → IsCrowded fences bytes → IsFree old new e
-  pub exact : (bytes : List ℕ) (f : OpenFault) → old.bytes ≡ Some bytes → IsInBytes f → IsLogFault oldest_read most_inspected bytes f → (e ≡ f) ⊎ IsFree old new e
+  pub exact : (bytes : List ℕ) (f : OpenFault) → old.bytes ≡ Some bytes → IsInBytes f → IsFault oldest_read None most_inspected bytes f → (e ≡ f) ⊎ IsFree old new e
   pub whole : (bytes : List ℕ) (w : ℕ) (cells : List Cell) → old.bytes ≡ Some bytes → IsWidth w → Recovers w cells bytes → length cells ≤ most_inspected → IsFree old new e
   pub reads : OnlyReads {T = Unit {0}} old new (Err e)
 
@@ -114,22 +114,12 @@ module _ (a b c : Drive) (stays : Stays a b) (same : b.faults ≡ a.faults) wher
   }
 
 -- a head that isn't read
-pub fails-head : (fences : List Fence) (old new : Drive) (e : OpenFault) → OnlyReads {T = Unit {0}} old new (Err e) → ShowsFault oldest_read most_inspected old e → MayTellLog oldest_read most_inspected e
-    → ((bytes : List ℕ) (f : OpenFault) → old.bytes ≡ Some bytes → IsInBytes f → IsOfHead f → IsLogFault oldest_read most_inspected bytes f → (e ≡ f) ⊎ IsFree old new e)
-    → ((bytes : List ℕ) (w : ℕ) → old.bytes ≡ Some bytes → HasWidth w bytes → IsFree old new e) → FailsAlong fences old new e
-fails-head fences old new e reads wrong may exact whole = record {
-  wrong = wrong;
-  may = may;
-  crowd = λ bytes told crowd. whole bytes crowd.width told (crowd-width fences bytes crowd);
-  exact = named;
-  whole = λ bytes w cells told known recovers few. whole bytes w told (recovers_width w cells bytes known recovers);
+pub fails-head : (fences : List Fence) (old new : Drive) (e : OpenFault) → OnlyReads {T = Unit {0}} old new (Err e) → RefusesWalk None most_inspected old new e → FailsAlong fences old new e
+fails-head fences old new e reads refused = record {
+  wrong = refused.fault.shows;
+  may = refused.fault.may;
+  crowd = λ bytes told crowd. let has = crowd-width fences bytes crowd in refused.named bytes crowd.width told has.known has;
+  exact = refused.fault.exact;
+  whole = λ bytes w cells told known recovers few. refused.named bytes w told known (recovers_width w cells bytes known recovers);
   reads = reads;
 }
-  where
-    named : (bytes : List ℕ) (f : OpenFault) → old.bytes ≡ Some bytes → IsInBytes f → IsLogFault oldest_read most_inspected bytes f → (e ≡ f) ⊎ IsFree old new e
-    named bytes fault.NotLog told shown is = exact bytes fault.NotLog told tt tt is
-    named bytes (fault.OldLog version width) told shown is = exact bytes (fault.OldLog version width) told tt tt is
-    named bytes (fault.Damaged n why) told shown (w, has, damaged) = inr (whole bytes w told has)
-    named bytes (fault.TooLong limit) told shown (w, has, same, long) = inr (whole bytes w told has)
-    named bytes fault.Disk told shown is = absurd shown
-    named bytes fault.Memory told shown is = absurd shown

@@ -1,13 +1,12 @@
 -- The command `watch`.
-use Rattle.std.specs.Prelude.{◌≡◌, ◌≢◌, ◌⊎◌, ◌+◌, ◌<◌, ◌≤◌, ℕ, List, [], length, Some, Ok, Err, false}
+use Rattle.std.specs.Prelude.{◌≡◌, ◌≢◌, ◌⊎◌, ◌+◌, ◌<◌, ◌≤◌, ℕ, List, [], length, Some, Ok, Err, false, None}
 use Rattle.causes.specs.Causes.{Rose}
 use Rattle.disk_trait.specs.Drive.{Drive, Stays}
 use Rattle.cell_format.specs.declared.cell.Cell.{Cell}
 use Rattle.log_state.specs.Recovers.{Recovers}
-use Rattle.recovery.specs.Faults.{BeginsWith, IsInBytes}
+use Rattle.recovery.specs.Faults.{BeginsWith, IsInBytes, IsFault}
 use Rattle.recovery.specs.Found.{IsWanted}
 use Rattle.zorder.specs.Width.{IsWidth}
-use Rattle.recovery.specs.Widths.{IsLogFault}
 use Rattle.recovery.specs.declared.seen.OpenFault.{OpenFault}
 use Rattle.io_edge.specs.Streams.{Input, Output}
 use Rattle.io_edge.specs.Reads.{ConsumesUpTo}
@@ -56,7 +55,7 @@ pub record IsDecidedAlong (fences : List Fence) (old new : Drive) (status : ℕ)
   pub over : (bytes : List ℕ) → old.bytes ≡ Some bytes → IsCrowded fences bytes → (Rose old.faults new.faults → ⊥)
       → Refuses refusal.LongEvents status before after ⊎ (status ≡ 9)
   pub exact : (bytes : List ℕ) (fault : OpenFault) → old.bytes ≡ Some bytes → IsInBytes fault
-      → IsLogFault oldest_read most_inspected bytes fault → (IsCrowded fences bytes → ⊥)
+      → IsFault oldest_read None most_inspected bytes fault → (IsCrowded fences bytes → ⊥)
       → (Rose old.faults new.faults → ⊥) → Refuses (log_refusal fault) status before after ⊎ (status ≡ 9)
   pub whole : (bytes : List ℕ) (w : ℕ) (cells : List Cell) → old.bytes ≡ Some bytes → IsWidth w → Recovers w cells bytes
       → length cells ≤ most_inspected → length (crossings cells fences) ≤ most_events

@@ -5,7 +5,7 @@ ghost use Rattle.watch_run.specs.inside.Along.{IsBegun, IsStarted, RefusesAttach
 
 use disk_trait::LogDisk;
 use fence_watch::{AlongFault, Fences, Tally, WatchFault};
-use recovery::{OpenRefused, Walk};
+use recovery::{OpenRefused, Walk, Wanted};
 use run_ends::{MOST_INSPECTED, Refusal, Unmade, attach, log_refusal};
 use std::alloc::Global;
 
@@ -41,7 +41,11 @@ fn watch_attached<D: LogDisk>(
     ensures along { MatchResult result (λ a. RunsAlong fences.now (D.drive disk) (D.drive a.disk) a.watch)
         (λ e. RefusesAttached fences.now (D.drive disk) (D.drive e.disk) e.why) }
 {
-    match Walk::along(alloc, disk, MOST_INSPECTED) {
+    let wanted = Wanted {
+        width: None,
+        most: MOST_INSPECTED,
+    };
+    match Walk::along(alloc, disk, wanted) {
         Ok(walk) => watch_walk(alloc, fences, walk),
         Err(OpenRefused { disk, cause }) => {
             let why = log_refusal(cause);

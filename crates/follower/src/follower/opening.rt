@@ -33,7 +33,7 @@ impl<D: LogDisk> Follower<D> {
         ensures opened { IfOk result (Opens D.drive width cells.now (D.drive disk)) }
         ensures refused { IfErr result (λ e. RefusesOpen width cells.now (D.drive disk) (D.drive e.disk) e.fault) }
         ensures exact { (bytes : List ℕ) (fault : OpenFault) → (D.drive disk).bytes ≡ Some bytes → 17 < length bytes → IsInBytes fault
-            → IsFault newest width most_held bytes fault
+            → IsFault newest (Some width) most_held bytes fault
             → IsErrAnd result (λ e. (e.fault ≡ Log fault) ⊎ IsFree (D.drive disk) (D.drive e.disk) e.fault) }
         ensures strange { (bytes : List ℕ) (number : ℕ) → (D.drive disk).bytes ≡ Some bytes → IsStrange width cells.now bytes number
             → IsErrAnd result (λ e. (e.fault ≡ Strange number) ⊎ IsFree (D.drive disk) (D.drive e.disk) e.fault) }

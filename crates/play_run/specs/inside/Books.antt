@@ -7,11 +7,10 @@ use Rattle.plain_list.specs.State.{State}
 use Rattle.plain_list.specs.World.{IsWorld}
 use Rattle.recovery.specs.declared.seen.OpenFault.{OpenFault}
 use Rattle.recovery.specs.declared.seen.Seen.{Seen}
-use Rattle.recovery.specs.Faults.{IsInBytes}
+use Rattle.recovery.specs.Faults.{IsInBytes, IsFault}
 use Rattle.recovery.specs.Found.{IsFound}
 use Rattle.recovery.specs.Opening.{KeepsCells}
 use Rattle.zorder.specs.Width.{IsWidth}
-use Rattle.recovery.specs.Widths.{IsLogFault}
 use Rattle.kept_log.specs.Kept.{IsOpened, found_state}
 use Rattle.kept_log.specs.KeptView.{KeptView}
 use Rattle.kept_log.specs.Journal.{cells_in, disk_in, KeepsIn}
@@ -72,7 +71,7 @@ pub record OpensFile (file : List ℕ) (old start now : Drive) (w : ℕ) (seen :
   pub calm : start.faults ≡ old.faults
   pub attached : AttachedOne file false old start
   pub keeps : KeepsCells w old now
-  pub shows : (bytes : List ℕ) (fault : OpenFault) → old.bytes ≡ Some bytes → IsInBytes fault → IsLogFault oldest_played most_played bytes fault → ⊥
+  pub shows : (bytes : List ℕ) (fault : OpenFault) → old.bytes ≡ Some bytes → IsInBytes fault → IsFault oldest_played None most_played bytes fault → ⊥
 
 -- a book of this width over the log that stood on a drive, whose bytes show no fault
 pub record OpensBook {D : Type 0} (drive : D → Drive) (file : List ℕ) (old : Drive) (w size : ℕ) (b : BookView D) : Type 0 where
@@ -87,4 +86,4 @@ pub record OpensBook {D : Type 0} (drive : D → Drive) (file : List ℕ) (old :
   pub stays : Stays old (drive log.start)
   pub calm : (drive log.start).faults ≡ old.faults
   pub attached : AttachedOne file false old (drive log.start)
-  pub shows : (bytes : List ℕ) (fault : OpenFault) → old.bytes ≡ Some bytes → IsInBytes fault → IsLogFault oldest_played most_played bytes fault → ⊥
+  pub shows : (bytes : List ℕ) (fault : OpenFault) → old.bytes ≡ Some bytes → IsInBytes fault → IsFault oldest_played None most_played bytes fault → ⊥

@@ -1,13 +1,12 @@
 -- How a watch goes along the cells of a log.
-use Rattle.std.specs.Prelude.{◌≡◌, ◌≢◌, ◌⊎◌, ◌≤◌, ℕ, List, [], length, Some, false}
+use Rattle.std.specs.Prelude.{◌≡◌, ◌≢◌, ◌⊎◌, ◌≤◌, ℕ, List, [], length, Some, false, None}
 use Rattle.causes.specs.Causes.{Rose}
 use Rattle.disk_trait.specs.Drive.{Drive, SameFile, Stays}
 use Rattle.cell_format.specs.declared.cell.Cell.{Cell}
 use Rattle.log_state.specs.Recovers.{Recovers}
-use Rattle.recovery.specs.Faults.{IsInBytes}
+use Rattle.recovery.specs.Faults.{IsInBytes, IsFault}
 use Rattle.recovery.specs.Walks.{ComesAlong, WalkView}
 use Rattle.zorder.specs.Width.{IsWidth}
-use Rattle.recovery.specs.Widths.{IsLogFault}
 use Rattle.recovery.specs.declared.seen.OpenFault.{OpenFault}
 use Rattle.run_ends.specs.declared.refusals.Refusal.{Refusal}
 use Rattle.run_ends.specs.declared.refusals.Refusal.TheVariants as refusal
@@ -55,7 +54,7 @@ pub record RefusesAlong (fences : List Fence) (old new : Drive) (why : Refusal) 
   pub over : (bytes : List ℕ) → old.bytes ≡ Some bytes → IsCrowded fences bytes → (Rose old.faults new.faults → ⊥)
       → (why ≡ refusal.LongEvents) ⊎ (why ≡ refusal.Memory)
   pub exact : (bytes : List ℕ) (fault : OpenFault) → old.bytes ≡ Some bytes → IsInBytes fault
-      → IsLogFault oldest_read most_inspected bytes fault → (IsCrowded fences bytes → ⊥)
+      → IsFault oldest_read None most_inspected bytes fault → (IsCrowded fences bytes → ⊥)
       → (Rose old.faults new.faults → ⊥) → (why ≡ log_refusal fault) ⊎ (why ≡ refusal.Memory)
   pub whole : (bytes : List ℕ) (w : ℕ) (cells : List Cell) → old.bytes ≡ Some bytes → IsWidth w → Recovers w cells bytes
       → length cells ≤ most_inspected → length (crossings cells fences) ≤ most_events

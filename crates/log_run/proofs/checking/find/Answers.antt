@@ -14,14 +14,14 @@ returns-in-Err-inspect_log-clause-cause g c =
     let old = g.D.LogDisk.drive c.args.disk.now in
     let new = g.D.LogDisk.drive c.inspect_log.new.disk in
     subst (λ (why : Refusal). IsCheckingCause old new why) (sym c.log_refusal.ensures)
-    (checking-after old (g.D.LogDisk.drive c.attach.new.disk) new c.inspect_log.result c.in-Err-inspect_log.fault c.in-Err-inspect_log.is c.in_default.ensures.attached.stays (omega (arith, c.in_default.ensures.attached.calm)) c.in-Err-inspect_log.ensures.fault.0 c.in-Err-inspect_log.ensures.fault.1 c.inspect_log.ensures.reads)
+    (checking-after old (g.D.LogDisk.drive c.attach.new.disk) new c.inspect_log.result c.in-Err-inspect_log.fault c.in-Err-inspect_log.is c.in_default.ensures.attached.stays (omega (arith, c.in_default.ensures.attached.calm)) c.in-Err-inspect_log.ensures.refused.shows c.in-Err-inspect_log.ensures.refused.may c.inspect_log.ensures.reads)
 
 pub returns-in-Err-inspect_log-clause-decided : goal.returns-in-Err-inspect_log-clause-decided
 returns-in-Err-inspect_log-clause-decided g c =
     let old = g.D.LogDisk.drive c.args.disk.now in
     let new = g.D.LogDisk.drive c.inspect_log.new.disk in
     subst (λ (why : Refusal). IsDecidedBy {T = SeenLog} most_inspected old new (Err why)) (sym c.log_refusal.ensures)
-    (decided-err old (g.D.LogDisk.drive c.attach.new.disk) new c.in-Err-inspect_log.fault c.inspect_log.result c.in-Err-inspect_log.is c.in_default.ensures.attached.stays (omega (arith, c.in_default.ensures.attached.calm)) c.inspect_log.ensures.exact c.inspect_log.ensures.whole)
+    (decided-err old (g.D.LogDisk.drive c.attach.new.disk) new c.in-Err-inspect_log.fault c.in_default.ensures.attached.stays (omega (arith, c.in_default.ensures.attached.calm)) c.in-Err-inspect_log.ensures.refused)
 
 pub returns-in-Ok-clause-stays : goal.returns-in-Ok-clause-stays
 returns-in-Ok-clause-stays g c = stays-trans (g.D.LogDisk.drive c.args.disk.now) (g.D.LogDisk.drive c.attach.new.disk) (g.D.LogDisk.drive c.inspect_log.new.disk) c.in_default.ensures.attached.stays c.inspect_log.ensures.reads.stays
@@ -43,11 +43,11 @@ pub returns-in-Err-inspect_log-clause-later : goal.returns-in-Err-inspect_log-cl
 returns-in-Err-inspect_log-clause-later g c = omega (arith, c.in_default.ensures.attached.calm, c.inspect_log.ensures.reads.later)
 
 pub returns-in-Ok-clause-found : goal.returns-in-Ok-clause-found
-returns-in-Ok-clause-found g c = (c.in-Ok.ensures.found.0.known, found-after c.in-Ok.found.width most_inspected _ _ c.in-Ok.found.seen c.in_default.ensures.attached.stays c.in-Ok.ensures.found.1)
+returns-in-Ok-clause-found g c = (c.in-Ok.ensures.found.width.known, found-after c.in-Ok.found.width most_inspected _ _ c.in-Ok.found.seen c.in_default.ensures.attached.stays c.in-Ok.ensures.found.found)
 
 pub returns-in-Ok-clause-decided : goal.returns-in-Ok-clause-decided
 returns-in-Ok-clause-decided g c =
-    record { exact = λ bytes fault told shown wrong calm. absurd (c.in-Ok.ensures.exact bytes fault (c.in_default.ensures.attached.stays.bytes ∙ told) shown wrong); whole = λ bytes w cells told known text few calm. tt }
+    record { exact = λ bytes fault told shown wrong calm. absurd (c.in-Ok.ensures.found.sound bytes fault (c.in_default.ensures.attached.stays.bytes ∙ told) shown wrong); whole = λ bytes w cells told known text few calm. tt }
 
 pub returns-in-Ok-clause-later : goal.returns-in-Ok-clause-later
 returns-in-Ok-clause-later g c = omega (arith, c.in_default.ensures.attached.calm, c.inspect_log.ensures.reads.later)

@@ -18,7 +18,7 @@ returns-in-Err-open_log-clause-refused g c =
     let by = c.in-Err-open_log.ensures in
     let e = c.in-Err-open_log.field-0 in
     subst (λ (why : Refusal). IsNotOpened c.args.file.now (drive c.args.disk) (drive e.disk) why) (sym c.log_refusal-why.ensures)
-    (log-refused c.args.file.now (drive c.args.disk) (drive c.attach.new.disk) (drive e.disk) e.cause (g.met.D.LogDisk.keeps_laws c.args.disk) c.in_default.ensures.attached by.refused by.any_moment by.exact by.whole)
+    (log-refused c.args.file.now (drive c.args.disk) (drive c.attach.new.disk) (drive e.disk) e.cause (g.met.D.LogDisk.keeps_laws c.args.disk) c.in_default.ensures.attached by.refused by.any_moment)
 
 pub returns-in-Ok-clause-opened : goal.returns-in-Ok-clause-opened
 returns-in-Ok-clause-opened g c =
@@ -30,12 +30,12 @@ returns-in-Ok-clause-opened g c =
     let start : Drive = drive c.attach.new.disk in
     let now : Drive = drive log.opened.log.disk in
     subst (λ d. OpensFile c.args.file.now old (drive d) now log.width log.opened.seen) (sym by.start) (record {
-      known = by.opened.width.known;
-      found = by.opened.found;
-      ready = opened-found log.width most_played start now log.opened.seen by.opened.found by.opened.ready (by.any_moment.cells log.width);
+      known = by.opened.log.width.known;
+      found = by.opened.log.found;
+      ready = opened-found log.width most_played start now log.opened.seen by.opened.log.found by.opened.ready (by.any_moment.cells log.width);
       stays = at.stays;
       calm = at.calm;
       attached = at.named;
       keeps = keeps-cells-after log.width old start now (g.met.D.LogDisk.keeps_laws c.args.disk) at.stays (by.any_moment.cells log.width);
-      shows = λ bytes fault told shown is. by.exact bytes fault (at.stays.bytes ∙ told) shown is;
+      shows = λ bytes fault told shown is. by.opened.log.sound bytes fault (at.stays.bytes ∙ told) shown is;
     })

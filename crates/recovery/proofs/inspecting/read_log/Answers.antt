@@ -1,11 +1,10 @@
-use Rattle.std.proofs.Common.{[], sym, subst, ◌∙◌}
+use Rattle.std.proofs.Common.{Some, [], sym, subst, ◌∙◌}
 use Rattle.recovery.specs.Faults.{IsFault}
-use Rattle.recovery.specs.Reading.{IsFoundFor}
-use Rattle.recovery.specs.Wanted.{MayTellCells}
+use Rattle.recovery.specs.Reading.{IsBehind, IsFoundFor}
 use Rattle.recovery.proofs.PieceLemmas.{passed_on}
-use Rattle.recovery.proofs.ReadingLemmas.{has_read-stays}
+use Rattle.recovery.proofs.ReadingLemmas.{behind_may, has_read-stays}
 use Rattle.recovery.proofs.WalkLemmas.{found_read}
-use Rattle.recovery.proofs.WantedLemmas.{starts_width, fault_for, cells_may}
+use Rattle.recovery.proofs.WantedLemmas.{finds_wanted, starts_width, fault_for}
 use Rattle.recovery.proofs.inspecting.read_log.Goals as goal
 
 pub returns-in_err-reading-clause-may : goal.returns-in_err-reading-clause-may
@@ -21,9 +20,9 @@ returns-in_err-read_cells-clause-fault g c =
     let e = c.in_err-read_cells.field-0.0 in
     passed_on c.from_residual-in_err-read_cells.result _ _ c.from_residual-in_err-read_cells.ensures.1
     (λ bytes told.
-    fault_for c.args.oldest c.args.most bytes c.args.wanted first.replay.width begun.fits
-    ((starts_width c.args.oldest c.args.wanted c.args.most (drive c.args.disk.now) first c.requires.oldest begun).named bytes told) e
-    (subst (λ m. IsFault c.args.oldest first.replay.width m bytes e) begun.starts.most_is
+    fault_for c.args.oldest c.args.wanted.most bytes c.args.wanted.width first.replay.width begun.fits
+    ((starts_width c.args.oldest c.args.wanted.width c.args.wanted.most (drive c.args.disk.now) first c.requires.oldest begun).named bytes told) e
+    (subst (λ m. IsFault c.args.oldest (Some first.replay.width) m bytes e) begun.starts.most_is
     (c.in_err-read_cells.ensures.err.fails [] (has_read-stays [] (drive c.args.disk.now) (drive c.start.new.disk) first kept begun.starts.read) bytes (kept ∙ told) c.args.oldest begun.starts.wanted)))
 
 pub returns-in_err-read_cells-clause-may : goal.returns-in_err-read_cells-clause-may
@@ -34,8 +33,8 @@ returns-in_err-read_cells-clause-may g c =
     let kept = c.start.ensures.reads.stays.bytes in
     let e = c.in_err-read_cells.field-0.0 in
     passed_on c.from_residual-in_err-read_cells.result _ _ c.from_residual-in_err-read_cells.ensures.1
-    (cells_may c.args.oldest c.args.wanted c.args.most e
-    (subst (λ m. MayTellCells m e) begun.starts.most_is (c.in_err-read_cells.ensures.err.may [] (has_read-stays [] (drive c.args.disk.now) (drive c.start.new.disk) first kept begun.starts.read))))
+    (let behind = c.in_err-read_cells.ensures.err.behind [] (has_read-stays [] (drive c.args.disk.now) (drive c.start.new.disk) first kept begun.starts.read) in
+    behind_may c.args.oldest c.args.wanted.width c.args.wanted.most behind.0 e (subst (λ m. IsBehind m behind.0 e) begun.starts.most_is behind.1))
 
 pub returns-clause-found : goal.returns-clause-found
 returns-clause-found g c =
@@ -43,9 +42,10 @@ returns-clause-found g c =
     let begun = c.in_ok-reading.ensures.ok in
     let first = c.in_ok-reading.reading in
     let all = c.in_ok-read_cells.ensures.ok in
-    subst (λ w. IsFoundFor c.args.oldest c.args.wanted c.args.most (drive c.args.disk.now) w c.seen_in.result c.len.result) (sym all.same.width ∙ sym c.width.ensures.is) (record {
-      width = starts_width c.args.oldest c.args.wanted c.args.most (drive c.args.disk.now) first c.requires.oldest begun;
-      fits = begun.fits;
-      within = found_read c.args.oldest first.replay.width c.args.most c.len.result (drive c.args.disk.now) (drive c.start.new.disk) first c.read_cells.new.reading c.seen_in.result begun.starts
-          c.start.ensures.reads.stays.bytes all c.seen_in.ensures c.len.ensures;
+    let within = found_read c.args.oldest first.replay.width c.args.wanted.most c.len.result (drive c.args.disk.now) (drive c.start.new.disk) first c.read_cells.new.reading c.seen_in.result begun.starts
+    c.start.ensures.reads.stays.bytes all c.seen_in.ensures c.len.ensures in
+    subst (λ w. IsFoundFor c.args.oldest c.args.wanted.width c.args.wanted.most (drive c.args.disk.now) w c.seen_in.result c.len.result) (sym all.same.width ∙ sym c.width.ensures.is) (record {
+      log = finds_wanted c.args.oldest c.args.wanted.width c.args.wanted.most (drive c.args.disk.now) first.replay.width c.seen_in.result c.requires.oldest
+          (starts_width c.args.oldest c.args.wanted.width c.args.wanted.most (drive c.args.disk.now) first c.requires.oldest begun) begun.fits within.found;
+      within = within;
     })

@@ -10,6 +10,9 @@ returns-in-Ok g c =
 pub returns-in-Err : goal.returns-in-Err
 returns-in-Err g c =
     let refused = c.in-Err.ensures in
-    let fails = fails-head c.args.fences.now _ _ _ refused.reads refused.fault.0 refused.fault.2 refused.exact refused.whole in
+    let fails = fails-head c.args.fences.now _ _ _ refused.reads refused.refused in
     rw c.log_refusal-why.ensures
     (record { along = record { refuses = refuses-fault c.args.fences.now _ _ _ fails; file = refused.reads.file } })
+
+pub watch_walk-requires : goal.watch_walk-requires
+watch_walk-requires g c = c.in-Ok.ensures.begins.along

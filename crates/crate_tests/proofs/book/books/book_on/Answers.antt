@@ -12,11 +12,11 @@ opened-requires g c =
     let opened = c.in-Ok.opened in
     let says = c.in-Ok.ensures in
     let width = c.WIDTH.result in
-    let is = opened-found width 16777216 (drive c.args.disk) (drive opened.log.disk) opened.seen says.found says.ready says.any_moment in
+    let is = opened-found width 16777216 (drive c.args.disk) (drive opened.log.disk) opened.seen says.opened.log.found says.opened.ready (says.any_moment.cells width) in
     subst (λ (w : ℕ). IsOpenedLog drive w opened.seen opened.start.value opened.log) c.WIDTH.ensures
     (record {
       counts = says.log.0;
       good = says.log.1;
-      found = subst (λ (d : g.row.D.Denot). IsFound newest width 16777216 (drive d) opened.seen) (sym says.start) says.found;
+      found = subst (λ (d : g.row.D.Denot). IsFound newest width 16777216 (drive d) opened.seen) (sym says.start) says.opened.log.found;
       ready = subst (λ (d : g.row.D.Denot). IsOpened width (found_state opened.seen) (drive d) (drive opened.log.disk)) (sym says.start) is;
     })
