@@ -2,4 +2,5 @@ pub mod Served
 pub mod Moves
 pub mod Holds
 pub mod Laws
+pub mod System
 pub use Rattle.disk_trait.specs.Drive

@@ -6,9 +6,10 @@ ghost use Rattle.disk_file.specs.Holds.{IsAloneOrKept};
 
 use crate::locks::{Hold, LockFile};
 use crate::moves::{read_from, write_to};
+use crate::system::or_unsupported;
 use disk_trait::DiskFault;
 use std::fs::OpenFile;
-use std::io::{self, ErrorKind, Read, Seek, Write};
+use std::io::{self, Read, Seek, Write};
 
 /// A file that other opens may read too, until the first call that changes or syncs it: from then on no other open gets a lock.
 #[derive(Drop)]
@@ -19,14 +20,7 @@ pub struct HeldFile<F: Drop> {
 
 // Where the system has no locks for a file, nobody is in the way.
 fn lock_for<F: LockFile>(file: &F, hold: Hold) -> io::Result<()> {
-    match file.try_hold(hold) {
-        Err(error) if is_without_locks(error.kind()) => Ok(()),
-        answer => answer,
-    }
-}
-
-fn is_without_locks(kind: ErrorKind) -> bool {
-    matches!(kind, ErrorKind::Unsupported | ErrorKind::InvalidInput)
+    or_unsupported(file.try_hold(hold))
 }
 
 fn told<T>(answer: io::Result<T>) -> Result<T, DiskFault>

@@ -13,6 +13,7 @@ mod locks;
 mod moves;
 mod opening;
 mod sending;
+mod system;
 
 pub use disk::FileDisk;
 pub use locks::{Hold, LockFile};
