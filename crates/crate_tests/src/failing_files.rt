@@ -12,10 +12,15 @@ use std::process::Abort;
 enum Call {
     Open,
     Clone,
-    // Another open has a lock in the way, of readers beside it, or of one alone; or there are no locks.
+    // Another open has a lock in the way, of readers beside it, or of one alone; or there are no locks; or there is no memory for one.
     Share,
     Alone,
     Lock,
+    LockMemory,
+    // The folder can't be opened, or synced; or the system can't sync folders.
+    Folder,
+    SyncFolder,
+    FolderSyncs,
     Metadata,
     SetLen,
     SyncData,
@@ -24,8 +29,8 @@ enum Call {
     Write,
 }
 
-// What was asked of a file: clones, writes, syncs of its bytes, and the sum of the lengths to which it was cut.
-type Asked = (u64, u64, u64, u64);
+// What was asked of a file: clones, writes, syncs of its bytes, and the sum of the lengths to which it was cut; and syncs of its folder.
+type Asked = (u64, u64, u64, u64, u64);
 
 // The call that fails, and what was asked.
 #[derive(Drop)]
@@ -35,6 +40,7 @@ struct Notes {
     writes: Cell<u64>,
     syncs: Cell<u64>,
     cuts: Cell<u64>,
+    folders: Cell<u64>,
 }
 
 impl Notes {
@@ -45,6 +51,7 @@ impl Notes {
             writes: Cell::new(0),
             syncs: Cell::new(0),
             cuts: Cell::new(0),
+            folders: Cell::new(0),
         }
     }
 
@@ -60,8 +67,17 @@ impl Notes {
             (Some(Call::Share), Hold::Shared) | (Some(Call::Alone), Hold::Alone) => Err(
                 io::Error::from(ErrorKind::WouldBlock),
             ),
+            (Some(Call::LockMemory), _) => Err(io::Error::from(ErrorKind::OutOfMemory)),
             _ => self.answer(Call::Lock),
         }
+    }
+
+    // The folder of the file, which is the one that the test runs in.
+    fn answer_of_folder(&self, call: Call) -> io::Result<()> {
+        if self.failing == Some(call) {
+            return Err(io::Error::from(ErrorKind::PermissionDenied));
+        }
+        Ok(())
     }
 
     fn asked(&self) -> Asked {
@@ -70,6 +86,7 @@ impl Notes {
             self.writes.get(),
             self.syncs.get(),
             self.cuts.get(),
+            self.folders.get(),
         )
     }
 }
@@ -130,7 +147,10 @@ impl<'a> OpenFile for NotedFile<'a> {
     }
 
     fn sync_all(&self) -> io::Result<()> {
-        Err(unsupported())
+        self.notes.answer_of_folder(Call::SyncFolder)?;
+        self.notes.answer(Call::FolderSyncs)?;
+        add(&self.notes.folders, 1);
+        Ok(())
     }
 
     fn sync_data(&self) -> io::Result<()> {
@@ -162,9 +182,13 @@ impl<'a> Files for NotedFiles<'a> {
 
     type Dir = NotedFile<'a>;
 
-    fn open_file(&self, how: &OpenOptions, _path: &str) -> io::Result<NotedFile<'a>> {
+    fn open_file(&self, how: &OpenOptions, path: &str) -> io::Result<NotedFile<'a>> {
         how.check()?;
-        self.notes.answer(Call::Open)?;
+        if path == "." {
+            self.notes.answer_of_folder(Call::Folder)?;
+        } else {
+            self.notes.answer(Call::Open)?;
+        }
         Ok(NotedFile { notes: self.notes })
     }
 
@@ -237,73 +261,97 @@ const CASES: &[Case] = &[
         failing: None,
         attaches: true,
         told: (Some(LENGTH), Some(0), true, true, true),
-        asked: (1, 1, 1, 7),
+        asked: (1, 1, 1, 7, 1),
     },
     Case {
         failing: Some(Call::Open),
         attaches: false,
         told: NO_FILE,
-        asked: (0, 0, 0, 0),
+        asked: (0, 0, 0, 0, 0),
     },
     Case {
         failing: Some(Call::Clone),
         attaches: false,
         told: NO_FILE,
-        asked: (0, 0, 0, 0),
+        asked: (0, 0, 0, 0, 1),
     },
     Case {
         failing: Some(Call::Share),
         attaches: false,
         told: NO_FILE,
-        asked: (1, 0, 0, 0),
+        asked: (1, 0, 0, 0, 1),
     },
     Case {
         failing: Some(Call::Alone),
         attaches: true,
         told: (Some(LENGTH), Some(0), false, false, false),
-        asked: (1, 0, 0, 0),
+        asked: (1, 0, 0, 0, 1),
     },
     Case {
         failing: Some(Call::Lock),
         attaches: true,
         told: (Some(LENGTH), Some(0), true, true, true),
-        asked: (1, 1, 1, 7),
+        asked: (1, 1, 1, 7, 1),
+    },
+    Case {
+        failing: Some(Call::LockMemory),
+        attaches: false,
+        told: NO_FILE,
+        asked: (1, 0, 0, 0, 1),
+    },
+    Case {
+        failing: Some(Call::Folder),
+        attaches: false,
+        told: NO_FILE,
+        asked: (0, 0, 0, 0, 0),
+    },
+    Case {
+        failing: Some(Call::SyncFolder),
+        attaches: false,
+        told: NO_FILE,
+        asked: (0, 0, 0, 0, 0),
+    },
+    Case {
+        failing: Some(Call::FolderSyncs),
+        attaches: true,
+        told: (Some(LENGTH), Some(0), true, true, true),
+        asked: (1, 1, 1, 7, 0),
     },
     Case {
         failing: Some(Call::Metadata),
         attaches: true,
         told: (None, Some(0), true, true, true),
-        asked: (1, 1, 1, 7),
+        asked: (1, 1, 1, 7, 1),
     },
     Case {
         failing: Some(Call::SetLen),
         attaches: true,
         told: (Some(LENGTH), Some(0), true, false, true),
-        asked: (1, 1, 1, 0),
+        asked: (1, 1, 1, 0, 1),
     },
     Case {
         failing: Some(Call::SyncData),
         attaches: true,
         told: (Some(LENGTH), Some(0), true, true, false),
-        asked: (1, 1, 0, 7),
+        asked: (1, 1, 0, 7, 1),
     },
     Case {
         failing: Some(Call::Seek),
         attaches: true,
         told: (Some(LENGTH), None, false, true, true),
-        asked: (1, 0, 1, 7),
+        asked: (1, 0, 1, 7, 1),
     },
     Case {
         failing: Some(Call::Read),
         attaches: true,
         told: (Some(LENGTH), None, true, true, true),
-        asked: (1, 1, 1, 7),
+        asked: (1, 1, 1, 7, 1),
     },
     Case {
         failing: Some(Call::Write),
         attaches: true,
         told: (Some(LENGTH), Some(0), false, true, true),
-        asked: (1, 0, 1, 7),
+        asked: (1, 0, 1, 7, 1),
     },
 ];
 

@@ -3,4 +3,5 @@ pub mod Moves
 pub mod Holds
 pub mod Laws
 pub mod System
+pub mod Folders
 pub use Rattle.disk_trait.specs.Drive

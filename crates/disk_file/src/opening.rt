@@ -2,12 +2,15 @@
 ghost use Rattle.std.specs.Prelude.{◌≡◌, ◌↔◌, true};
 ghost use Rattle.std.specs.Fs.{new_options, with_read, with_write, with_create};
 ghost use Rattle.std.specs.IoError.{error_kind};
+ghost use Rattle.disk_file.specs.Folders.{folder_of};
 
 use crate::held::HeldFile;
 use crate::locks::LockFile;
+use crate::system::or_unsupported;
 use disk_trait::AttachFault;
 use std::fs::{Files, OpenFile, OpenOptions};
 use std::io::{self, ErrorKind};
+use std::path::Path;
 
 /// For reading and writing, and made where `make` is true.
 fn options(make: bool) -> OpenOptions
@@ -18,10 +21,31 @@ fn options(make: bool) -> OpenOptions
     options
 }
 
+/// The folder in which a file's name is: what comes before the last slash, or the folder that the program runs in.
+fn folder_of(name: &str) -> &str
+    ensures { result.now ≡ folder_of name.now }
+{
+    match Path::new(name).parent() {
+        Some(folder) if !folder.as_str().is_empty() => folder.as_str(),
+        _ => ".",
+    }
+}
+
+/// Has the name of a file on the disk. Until then a crash may leave a new file under no name, whatever was synced of its bytes.
+fn sync_folder<R: Files>(rt: &R, name: &str) -> io::Result<()> {
+    let mut options = OpenOptions::new();
+    options.read(true);
+    let folder = options.open(rt, folder_of(name))?;
+    or_unsupported(folder.sync_all())
+}
+
 /// A program may be started with a standard stream closed, and the system then opens the file under that stream's number: what
 /// is meant for the stream would land in the file. A second handle never has one of these three numbers.
 fn open_apart<R: Files>(rt: &R, name: &str, make: bool) -> io::Result<R::File> {
     let first = options(make).open(rt, name)?;
+    if make {
+        sync_folder(rt, name)?;
+    }
     first.try_clone()
 }
 
@@ -34,7 +58,8 @@ fn cause(error: &io::Error) -> AttachFault
     }
 }
 
-/// Opens the file of a name, and makes it where it isn't there and `make` is true. It is locked beside others that read it.
+/// Opens the file of a name, and makes it where it isn't there and `make` is true: then its folder is synced too. It is locked beside others
+/// that read it.
 pub fn opened<R: Files>(rt: &R, name: &str, make: bool) -> Result<HeldFile<R::File>, AttachFault>
 where
     R::File: LockFile,

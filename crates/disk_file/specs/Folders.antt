@@ -1,0 +1,11 @@
+-- The folder in which a file's name is.
+use Rattle.std.specs.Prelude.{ℕ, List, [], ◌∷◌, length, ◌==◌, if◌then◌else◌, Option, Some, None}
+use Rattle.std.specs.Path.{dot, path_parent}
+
+-- the one in which the program runs, where the name has no other
+abbrev pub folder_or_here : Option (List ℕ) → List ℕ
+folder_or_here None = dot ∷ []
+folder_or_here (Some folder) = if length folder == 0 then dot ∷ [] else folder
+
+abbrev pub folder_of : List ℕ → List ℕ
+folder_of name = folder_or_here (path_parent name)
