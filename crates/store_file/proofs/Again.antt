@@ -79,6 +79,10 @@ finds-text : (w : ℕ) (cells found : List Cell) (drive : Drive) (log : IsLog w 
 finds-text w cells found drive log (inl small) = small.1 ∙ no-more cells (omega (arith, small.0, text-length w cells drive log))
 finds-text w cells found drive log (inr long) = holds-same long.1.version newest w found cells log.bytes long.1.holds (text-holds w cells drive log)
 
+-- what is found in what a crash leaves of the text of cells
+finds-image : (w : ℕ) (cells found : List Cell) (drive : Drive) (log : IsLog w cells drive) (image : List ℕ) → drive.images image → FindsCells w found image → found ≡ cells
+finds-image w cells found drive log image left finds = finds-text w cells found drive log (subst (λ (c : List ℕ). FindsCells w found c) (log.durable image left) finds)
+
 some_of : (o : Option (List ℕ)) → is_some o ≡ true → (bytes : List ℕ) × (o ≡ Some bytes)
 some_of None is = absurd (true≢false (sym is))
 some_of (Some bytes) is = (bytes, refl)
@@ -98,10 +102,11 @@ module _ {D E : Type 0} (drive : D → Drive) (other : E → Drive) (w bucket si
       subst (λ (o : Origin). IsLog w (opened.cells ++ cells_of o.world last.seen) (drive disk)) one
       (subst (λ (d : D). IsLog w (opened.cells ++ cells_of last.origin.world last.seen) (drive d)) closed.disk_is text)
 
-  module _ (again : OpensStore other w size also (drive disk) key next number newer more) where
+  -- Any drive over the file, whose bytes are what a crash leaves of this one.
+  module _ (image : List ℕ) (left : (drive disk).images image) (new : Drive) (holds : new.bytes ≡ Some image) (again : OpensStore other w size also new key next number newer more) where
     -- the next opening finds these cells
     pub finds-cells : again.cells ≡ opened.cells ++ cells_of pass.origin.world last.seen
-    finds-cells = finds-text w (opened.cells ++ cells_of pass.origin.world last.seen) again.cells (drive disk) text-closed (again.found.finds text-closed.bytes text-closed.told)
+    finds-cells = finds-image w (opened.cells ++ cells_of pass.origin.world last.seen) again.cells (drive disk) text-closed image left (again.found.finds image holds)
 
     -- and begins with the objects that the last history left
     pub finds-closed : GoesOnFrom pass.origin last.seen next.origin
@@ -149,10 +154,11 @@ module _ {D : Type 0} (drive : D → Drive) (w : ℕ) (Is : Drive → Type 0) (l
   pub world-last : (state_of w cells-last).world ≡ world_after last.origin.world last.seen
   world-last = ap (λ (s : State). s.world) state-last ∙ state_after-world w (start_of last.origin) last.seen
 
+  -- Any drive over the file, whose bytes are what a crash leaves of this one.
   module _ {E : Type 0} (other : E → Drive) (size : ℕ) (also : List ℕ) (key : TableId) (next : Known) (number : ℕ) (newer : Option ℕ) (more : ℕ)
-      (again : OpensStore other w size also (drive disk) key next number newer more) where
+      (image : List ℕ) (left : (drive disk).images image) (new : Drive) (holds : new.bytes ≡ Some image) (again : OpensStore other w size also new key next number newer more) where
     pub cells-found : again.cells ≡ cells-last
-    cells-found = finds-text w cells-last again.cells (drive disk) text-last (again.found.finds text-last.bytes text-last.told)
+    cells-found = finds-image w cells-last again.cells (drive disk) text-last image left (again.found.finds image holds)
 
     -- the next opening begins with the objects, the leaves and the number of splits that the history left
     pub finds-last : start_of next.origin ≡ renewed_state w (start_of last.origin) last.seen

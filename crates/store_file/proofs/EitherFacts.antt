@@ -22,7 +22,7 @@ use Rattle.store_file.specs.declared.either.Which.{Which}
 use Rattle.store_file.specs.declared.either.Which.TheVariants as side
 use Rattle.store_file.specs.declared.faults.OpenCause.{OpenCause}
 use Rattle.store_file.specs.declared.faults.EitherCause.{EitherCause}
-use Rattle.store_file.specs.declared.faults.EitherCause.TheVariants.{Bucket, First, Second, Differ, Disk, Memory}
+use Rattle.store_file.specs.declared.faults.EitherCause.TheVariants.{Bucket, OneFile, First, Second, Differ, Disk, Memory}
 use Rattle.log_compact.specs.Clearing.{Clears, FailsToClear, KeepsOrClears}
 use Rattle.store_file.specs.Either.{chosen_of, other_of, IsChosen, MayGoBy, MayGoOn, FindsFile, KeepsOrEmpties, GivesUp, OpensEither, GoesNotOn, RefusesEither, RefusesBoth, IsFreeEither, CameOf, BeginsEither, BeginsNone, BeginsNeither}
 use Rattle.store_file.specs.Files.{OpensFile, IsUnmade}
@@ -153,6 +153,7 @@ module _ {D : Type 0} (drive : D → Drive) (laws : (d : D) → KeepsLaws (drive
     refuses-taken Disk sized came = (sized, goes-not-on (λ cells. FailsToClear) came)
     refuses-taken Memory sized came = (sized, goes-not-on (λ cells. Clears (length cells)) (subst (λ (n : ℕ). Clears n (drive mid) (drive (other_of which one two))) same-count came))
     refuses-taken Bucket sized came = absurd came
+    refuses-taken OneFile sized came = absurd came
     refuses-taken Differ sized came = absurd came
     refuses-taken (First why) sized came = absurd came
     refuses-taken (Second why) sized came = absurd came
@@ -162,6 +163,7 @@ module _ {D : Type 0} (drive : D → Drive) (laws : (d : D) → KeepsLaws (drive
         rose-other which drive first second one two Disk (rose-earlier (drive (other_of which first second)).faults (drive mid).faults (drive (other_of which one two)).faults (omega (arith, there.calm)) came.rose)
     free-taken Memory came = inl (inl refl)
     free-taken Bucket came = absurd came
+    free-taken OneFile came = absurd came
     free-taken Differ came = absurd came
     free-taken (First why) came = absurd came
     free-taken (Second why) came = absurd came
@@ -172,6 +174,7 @@ pub refuses-both : {D : Type 0} (drive : D → Drive) (w bucket : ℕ) (first_fi
 refuses-both drive w bucket first_file second_file first second one two (First why) sized not = (sized, not.0, not.1)
 refuses-both drive w bucket first_file second_file first second one two (Second why) sized not = (sized, not.0, not.1)
 refuses-both drive w bucket first_file second_file first second one two Bucket sized not = absurd not
+refuses-both drive w bucket first_file second_file first second one two OneFile sized not = absurd not
 refuses-both drive w bucket first_file second_file first second one two Differ sized not = absurd not
 refuses-both drive w bucket first_file second_file first second one two Disk sized not = absurd not
 refuses-both drive w bucket first_file second_file first second one two Memory sized not = absurd not
@@ -264,6 +267,7 @@ module _ {D : Type 0} (drive : D → Drive) (laws : (d : D) → KeepsLaws (drive
     neither-begun Disk is = (none-begun Disk is).0
     neither-begun Memory is = (none-begun Memory is).0
     neither-begun Bucket is = absurd is
+    neither-begun OneFile is = absurd is
     neither-begun (First why) is = absurd is
     neither-begun (Second why) is = absurd is
 
@@ -272,6 +276,7 @@ module _ {D : Type 0} (drive : D → Drive) (laws : (d : D) → KeepsLaws (drive
     neither-free Disk is = inr (none-begun Disk is).1
     neither-free Memory is = inr (none-begun Memory is).1
     neither-free Bucket is = absurd is
+    neither-free OneFile is = absurd is
     neither-free (First why) is = absurd is
     neither-free (Second why) is = absurd is
 
@@ -297,6 +302,7 @@ pub neither-by : {D : Type 0} (drive : D → Drive) (one two : Seen) (log also :
 neither-by drive one two log also first second which may kept Disk came keeps = record { which = which; may = may; kept = kept; came = came; keeps = keeps }
 neither-by drive one two log also first second which may kept Memory came keeps = record { which = which; may = may; kept = kept; came = came; keeps = keeps }
 neither-by drive one two log also first second which may kept Bucket came keeps = absurd came
+neither-by drive one two log also first second which may kept OneFile came keeps = absurd came
 neither-by drive one two log also first second which may kept Differ came keeps = absurd came
 neither-by drive one two log also first second which may kept (First cause) came keeps = absurd came
 neither-by drive one two log also first second which may kept (Second cause) came keeps = absurd came

@@ -7,9 +7,9 @@ use Rattle.plain_list.specs.declared.entries.Entry.{Entry}
 use Rattle.plain_list.specs.History.{world_after}
 use Rattle.book_lock.specs.declared.origin.Origin.{Origin}
 
--- An origin goes on from another behind a history: its objects are those that the history leaves. That the next opening of a file does so
--- is `finds-closed` (proofs/Again), and that it finds the cells which stood at the first one, and those of the history, `finds-cells`; behind
--- renewals and rotations `finds-last-world` and `cells-found`.
+-- An origin goes on from another after a history: its objects are those that the history leaves. The next opening of a file does so, whatever
+-- a crash left of it once the store was closed (`finds-closed`, proofs/Again), and finds the cells which stood at the first one, and those of
+-- the history (`finds-cells`). After renewals and rotations the same are `finds-last-world` and `cells-found`.
 abbrev pub GoesOnFrom : Origin → List Entry → Origin → Type 0
 GoesOnFrom first h next = next.world ≡ world_after first.world h
 

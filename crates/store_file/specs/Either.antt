@@ -16,7 +16,7 @@ use Rattle.store_file.specs.declared.either.Which.{Which}
 use Rattle.store_file.specs.declared.either.Which.TheVariants as side
 use Rattle.store_file.specs.declared.faults.OpenCause.TheVariants as opening
 use Rattle.store_file.specs.declared.faults.EitherCause.{EitherCause}
-use Rattle.store_file.specs.declared.faults.EitherCause.TheVariants.{Bucket, First, Second, Differ, Disk, Memory}
+use Rattle.store_file.specs.declared.faults.EitherCause.TheVariants.{Bucket, OneFile, First, Second, Differ, Disk, Memory}
 use Rattle.log_compact.specs.Clearing.{Clears, FailsToClear, KeepsOrClears}
 use Rattle.store_file.specs.Files.{FindsCells, IsUnmade, KeepsFile}
 use Rattle.store_file.specs.Opened.{OpensStore, BeginsOver}
@@ -117,6 +117,8 @@ pub record GoesNotOn {D : Type 0} (drive : D → Drive) (w : ℕ) (Came : List C
 -- Why no store is opened, and what that leaves of both files.
 abbrev pub RefusesEither : {D : Type 0} → (D → Drive) → ℕ → ℕ → List ℕ → List ℕ → D → D → D → D → EitherCause → Type 0
 RefusesEither drive w bucket first_file second_file first second one two Bucket = (is_bucket bucket ≡ false) × (one ≡ first) × (two ≡ second)
+RefusesEither drive w bucket first_file second_file first second one two OneFile =
+    (is_bucket bucket ≡ true) × (first_file ≡ second_file) × (one ≡ first) × (two ≡ second)
 RefusesEither drive w bucket first_file second_file first second one two (First why) =
     (is_bucket bucket ≡ true) × NotOpens w first_file (drive first) (drive one) why × (two ≡ second)
 RefusesEither drive w bucket first_file second_file first second one two (Second why) =
@@ -134,6 +136,7 @@ RefusesBoth drive w first_file second_file first second one two (First why) = No
 RefusesBoth drive w first_file second_file first second one two (Second why) =
     WasOpened w first_file (drive first) (drive one) × NotOpens w second_file (drive second) (drive two) why
 RefusesBoth drive w first_file second_file first second one two Bucket = ⊥
+RefusesBoth drive w first_file second_file first second one two OneFile = ⊥
 RefusesBoth drive w first_file second_file first second one two Differ = ⊥
 RefusesBoth drive w first_file second_file first second one two Disk = ⊥
 RefusesBoth drive w first_file second_file first second one two Memory = ⊥
@@ -150,6 +153,7 @@ abbrev pub CameOf : ℕ → EitherCause → Drive → Drive → Type 0
 CameOf count Disk old new = FailsToClear old new
 CameOf count Memory old new = Clears count old new
 CameOf count Bucket old new = ⊥
+CameOf count OneFile old new = ⊥
 CameOf count Differ old new = ⊥
 CameOf count (First why) old new = ⊥
 CameOf count (Second why) old new = ⊥
@@ -175,5 +179,6 @@ BeginsNeither drive one two log also first second Differ = (first ≡ log.disk) 
 BeginsNeither drive one two log also first second Disk = BeginsNone drive one two log also first second Disk
 BeginsNeither drive one two log also first second Memory = BeginsNone drive one two log also first second Memory
 BeginsNeither drive one two log also first second Bucket = ⊥
+BeginsNeither drive one two log also first second OneFile = ⊥
 BeginsNeither drive one two log also first second (First why) = ⊥
 BeginsNeither drive one two log also first second (Second why) = ⊥

@@ -1,5 +1,5 @@
 //! Opens a store over one of two files.
-ghost use Rattle.std.specs.Prelude.{◌≡◌, ◌⊎◌, ◌↔◌, true, false, None, IfOk, IfErr, IsTrue};
+ghost use Rattle.std.specs.Prelude.{◌≡◌, ◌≢◌, ◌⊎◌, ◌↔◌, true, false, None, IfOk, IfErr, IsTrue};
 ghost use Rattle.std.specs.Result.{IsErrAnd};
 ghost use Rattle.zorder.specs.Width.{IsWidth};
 ghost use Rattle.recovery.specs.declared.seen.OpenFault.{OpenFault};
@@ -70,6 +70,8 @@ struct NotTaken<D: LogDisk> {
 /// Opens a store over the log in one of two files, between which it may have been rotated: over the one that has records. Where both have
 /// some, a crash came between, and they leave the same objects: then the store goes on over the log with fewer. The other log is made
 /// empty. Each file is made where it isn't there, and its log where the file has at most 17 bytes.
+///
+/// One name for both files is refused. Two names of one file are only refused by its lock, so the caller sees to it that they are two files.
 pub fn open_either<I: Index, D: LogDisk>(
     alloc: Global,
     first: D,
@@ -84,14 +86,17 @@ pub fn open_either<I: Index, D: LogDisk>(
     ensures refused { IfErr result (λ e. RefusesEither D.drive I.WIDTH bucket first_file.now second_file.now first second
         e.first e.second e.cause) }
     ensures bucket { is_bucket bucket ≡ false → IsErrAnd result (λ e. e.cause ≡ EitherCause.Bucket) }
-    ensures exact_first { (fault : OpenFault) → is_bucket bucket ≡ true → ShowsFault I.WIDTH (D.drive first) fault
+    ensures one_file { is_bucket bucket ≡ true → first_file.now ≡ second_file.now → IsErrAnd result (λ e. e.cause ≡ EitherCause.OneFile) }
+    ensures exact_first { (fault : OpenFault) → is_bucket bucket ≡ true → first_file.now ≢ second_file.now
+        → ShowsFault I.WIDTH (D.drive first) fault
         → IsErrAnd result (λ e. (e.cause ≡ EitherCause.First (OpenCause.Log fault))
         ⊎ IsFreeEither (D.drive first) (D.drive second) (D.drive e.first) (D.drive e.second) e.cause) }
-    ensures exact_second { (fault : OpenFault) → is_bucket bucket ≡ true → CanOpen I.WIDTH (D.drive first)
-        → ShowsFault I.WIDTH (D.drive second) fault
+    ensures exact_second { (fault : OpenFault) → is_bucket bucket ≡ true → first_file.now ≢ second_file.now
+        → CanOpen I.WIDTH (D.drive first) → ShowsFault I.WIDTH (D.drive second) fault
         → IsErrAnd result (λ e. (e.cause ≡ EitherCause.Second (OpenCause.Log fault))
         ⊎ IsFreeEither (D.drive first) (D.drive second) (D.drive e.first) (D.drive e.second) e.cause) }
-    ensures whole { is_bucket bucket ≡ true → CanOpen I.WIDTH (D.drive first) → CanOpen I.WIDTH (D.drive second)
+    ensures whole { is_bucket bucket ≡ true → first_file.now ≢ second_file.now
+        → CanOpen I.WIDTH (D.drive first) → CanOpen I.WIDTH (D.drive second)
         → IfErr result (λ e. (e.cause ≡ EitherCause.Differ)
         ⊎ IsFreeEither (D.drive first) (D.drive second) (D.drive e.first) (D.drive e.second) e.cause) }
 {
@@ -100,6 +105,13 @@ pub fn open_either<I: Index, D: LogDisk>(
             first,
             second,
             cause: EitherCause::Bucket,
+        });
+    }
+    if first_file == second_file {
+        return Err(NotEither {
+            first,
+            second,
+            cause: EitherCause::OneFile,
         });
     }
     match open_both(alloc, first, first_file, second, second_file, I::WIDTH) {

@@ -38,6 +38,9 @@ pub enum EitherCause {
     /// The size of a bucket isn't from 4 to 4,096. Nothing was asked of the drives.
     #[error("the size of a bucket isn't from 4 to 4,096")]
     Bucket,
+    /// Both files have one name. Nothing was asked of the drives.
+    #[error("the two files have one name")]
+    OneFile,
     /// The first file wasn't opened. Nothing was asked of the second drive.
     #[error("the first file: {cause}")]
     First { cause: OpenCause },

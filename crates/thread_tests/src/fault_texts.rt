@@ -1,9 +1,11 @@
-//! What a refused call, or a refused renewal, is told as.
+//! What a refused call, a refused renewal, and an opening of two files that is refused, are told as.
 use commit_book::RenewFault;
+use recovery::OpenFault;
 use sessions::CallFault;
 use std::alloc::Global;
 use std::fmt::Display;
 use std::process::Abort;
+use store_file::{EitherCause, OpenCause};
 
 const REFUSED: &[(CallFault, &str)] = &[
     (
@@ -33,6 +35,34 @@ const NOT_RENEWED: &[(RenewFault, &str)] = &[
     ),
 ];
 
+const NOT_OPENED: &[(EitherCause, &str)] = &[
+    (
+        EitherCause::Bucket,
+        "the size of a bucket isn't from 4 to 4,096",
+    ),
+    (EitherCause::OneFile, "the two files have one name"),
+    (
+        EitherCause::First {
+            cause: OpenCause::Attach,
+        },
+        "the first file: the file can't be opened or made",
+    ),
+    (
+        EitherCause::Second {
+            cause: OpenCause::Log {
+                fault: OpenFault::TooLong { most: 16_777_216 },
+            },
+        },
+        "the second file: more than 16777216 cells",
+    ),
+    (EitherCause::Differ, "the two files have different objects"),
+    (
+        EitherCause::Disk,
+        "a drive failed while its log was emptied",
+    ),
+    (EitherCause::Memory, "out of memory"),
+];
+
 fn expect_text(rt: &impl Abort, alloc: Global, fault: &impl Display, text: &str) {
     let told = format!(in alloc; "{fault}").expect(rt, "it failed");
     assert_same!(rt; told.as_str(), text);
@@ -48,6 +78,13 @@ fn a_refused_call_tells_its_cause(rt: HostRuntime) {
 #[test]
 fn a_refused_renewal_tells_its_cause(rt: HostRuntime) {
     for (fault, text) in NOT_RENEWED {
+        expect_text(&rt, rt.alloc(), fault, text);
+    }
+}
+
+#[test]
+fn two_files_that_are_not_opened_tell_their_cause(rt: HostRuntime) {
+    for (fault, text) in NOT_OPENED {
         expect_text(&rt, rt.alloc(), fault, text);
     }
 }

@@ -372,15 +372,16 @@ fn expect_unopened(rt: &impl Abort, alloc: Global, file: &[&[u8]], bucket: u32, 
     expect_bytes(rt, alloc, &disk, file);
 }
 
-// Why neither of two files is opened, and both drives.
+// Why neither of two files is opened, of which the second one has this name, and both drives.
 fn refused<I: Index, D: LogDisk>(
     rt: &impl Abort,
     alloc: Global,
     first: D,
     second: D,
+    second_file: &str,
     bucket: u32,
 ) -> NotEither<D> {
-    match open_either::<I, D>(alloc, first, "one.log", second, "two.log", bucket) {
+    match open_either::<I, D>(alloc, first, "one.log", second, second_file, bucket) {
         Err(refused) => refused,
         Ok(_) => rt.panic("a file is opened"),
     }
@@ -394,13 +395,25 @@ fn expect_refused(
     bucket: u32,
     wanted: EitherCause,
 ) {
+    expect_refused_as(rt, alloc, files, "two.log", bucket, wanted);
+}
+
+// The same where the second file has this name.
+fn expect_refused_as(
+    rt: &impl Abort,
+    alloc: Global,
+    files: [&[&[u8]]; 2],
+    second_file: &str,
+    bucket: u32,
+    wanted: EitherCause,
+) {
     let [one, two] = files;
     let (first, second) = (disk_with(rt, alloc, one), disk_with(rt, alloc, two));
     let NotEither {
         first,
         second,
         cause,
-    } = refused::<FlatIndex, MemDisk>(rt, alloc, first, second, bucket);
+    } = refused::<FlatIndex, MemDisk>(rt, alloc, first, second, second_file, bucket);
     assert_same!(rt; cause, wanted);
     expect_bytes(rt, alloc, &first, one);
     expect_bytes(rt, alloc, &second, two);
@@ -426,6 +439,22 @@ fn files_of_two_worlds_are_refused(rt: HostRuntime) {
         [&[HEADER, LATER_1, PUT_2, END], ANEW],
         4,
         differ,
+    );
+}
+
+// Neither drive is touched, also where its file would be made.
+#[test]
+fn one_name_for_both_files_is_refused(rt: HostRuntime) {
+    let one_file = EitherCause::OneFile;
+    expect_refused_as(&rt, rt.alloc(), [ANEW, ANEW], "one.log", 4, one_file);
+    expect_refused_as(&rt, rt.alloc(), [UNMADE, UNMADE], "one.log", 4, one_file);
+    expect_refused_as(
+        &rt,
+        rt.alloc(),
+        [ANEW, ANEW],
+        "one.log",
+        3,
+        EitherCause::Bucket,
     );
 }
 

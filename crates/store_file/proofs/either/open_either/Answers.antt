@@ -47,7 +47,7 @@ returns-in-Ok-clause-refused g c =
     c.go_on_over_either.result c.go_on_over_either.ensures.refused
 
 pub returns-in-Ok-clause-whole : goal.returns-in-Ok-clause-whole
-returns-in-Ok-clause-whole g c = λ size good also.
+returns-in-Ok-clause-whole g c = λ size apart good also.
     let drive = g.D.LogDisk.drive in
     let w = g.I.Index.WIDTH in
     let one = c.in-Ok.both.one in
@@ -60,10 +60,10 @@ returns-in-Ok-clause-whole g c = λ size good also.
     c.go_on_over_either.result c.go_on_over_either.ensures.refused
 
 pub returns-in-Ok-clause-exact_first : goal.returns-in-Ok-clause-exact_first
-returns-in-Ok-clause-exact_first g c = λ fault sized shows. absurd (c.in-Ok.ensures.exact_first fault (subst (λ (w : ℕ). ShowsFault w (g.D.LogDisk.drive c.args.first) fault) (sym c.WIDTH.ensures) shows))
+returns-in-Ok-clause-exact_first g c = λ fault sized apart shows. absurd (c.in-Ok.ensures.exact_first fault (subst (λ (w : ℕ). ShowsFault w (g.D.LogDisk.drive c.args.first) fault) (sym c.WIDTH.ensures) shows))
 
 pub returns-in-Ok-clause-exact_second : goal.returns-in-Ok-clause-exact_second
-returns-in-Ok-clause-exact_second g c = λ fault sized good shows. absurd (c.in-Ok.ensures.exact_second fault
+returns-in-Ok-clause-exact_second g c = λ fault sized apart good shows. absurd (c.in-Ok.ensures.exact_second fault
     (subst (λ (w : ℕ). CanOpen w (g.D.LogDisk.drive c.args.first)) (sym c.WIDTH.ensures) good)
     (subst (λ (w : ℕ). ShowsFault w (g.D.LogDisk.drive c.args.second) fault) (sym c.WIDTH.ensures) shows))
 
@@ -75,10 +75,10 @@ returns-in-Err-clause-refused g c =
     (subst (λ (w : ℕ). RefusesBoth drive w c.args.first_file.now c.args.second_file.now c.args.first c.args.second e.first e.second e.cause) c.WIDTH.ensures c.in-Err.ensures.refused)
 
 pub returns-in-Err-clause-exact_first : goal.returns-in-Err-clause-exact_first
-returns-in-Err-clause-exact_first g c = λ fault sized shows. c.in-Err.ensures.exact_first fault (subst (λ (w : ℕ). ShowsFault w (g.D.LogDisk.drive c.args.first) fault) (sym c.WIDTH.ensures) shows)
+returns-in-Err-clause-exact_first g c = λ fault sized apart shows. c.in-Err.ensures.exact_first fault (subst (λ (w : ℕ). ShowsFault w (g.D.LogDisk.drive c.args.first) fault) (sym c.WIDTH.ensures) shows)
 
 pub returns-in-Err-clause-exact_second : goal.returns-in-Err-clause-exact_second
-returns-in-Err-clause-exact_second g c = λ fault sized good shows. c.in-Err.ensures.exact_second fault
+returns-in-Err-clause-exact_second g c = λ fault sized apart good shows. c.in-Err.ensures.exact_second fault
     (subst (λ (w : ℕ). CanOpen w (g.D.LogDisk.drive c.args.first)) (sym c.WIDTH.ensures) good)
     (subst (λ (w : ℕ). ShowsFault w (g.D.LogDisk.drive c.args.second) fault) (sym c.WIDTH.ensures) shows)
 
@@ -97,6 +97,6 @@ go_on_over_either-requires-clause-two g c =
     opened-log drive g.I.Index.WIDTH c.args.second_file.now (drive c.args.second) two.start.value two.seen two.log opens (c.in-Ok.ensures.logs.2, c.in-Ok.ensures.logs.3)
 
 pub returns-in-Err-clause-whole : goal.returns-in-Err-clause-whole
-returns-in-Err-clause-whole g c = λ size good also. inr (c.in-Err.ensures.whole
+returns-in-Err-clause-whole g c = λ size apart good also. inr (c.in-Err.ensures.whole
     (subst (λ (w : ℕ). CanOpen w (g.D.LogDisk.drive c.args.first)) (sym c.WIDTH.ensures) good)
     (subst (λ (w : ℕ). CanOpen w (g.D.LogDisk.drive c.args.second)) (sym c.WIDTH.ensures) also))
