@@ -18,7 +18,7 @@ use Rattle.book_lock.specs.Origin.{Origin}
 use Rattle.book_lock.specs.declared.view.View.{View}
 use Rattle.book_lock.specs.Own.{times, once_below, Owns, IsBelow}
 use Rattle.book_lock.specs.Ends.{IsEnd, EndsSplit, OwnsEnds, MayNote}
-use Rattle.book_lock.specs.Rule.{seat_view, total, hold_of, parts_of, times_of, newcomer, Fits, HasEnder, LockRule, without_part, part_of, note_of, both, spent, untold}
+use Rattle.book_lock.specs.Rule.{seat_view, total, hold_of, parts_of, times_of, newcomer, Fits, HasEnder, LockRule, without_parts, parts_from, note_of, both, spent, untold}
 use Rattle.book_lock.specs.Steps.{Sat, holder, taken, noted, released, compared}
 use Rattle.book_lock.proofs.Positions.{once_below-one, once_below-in, once_below-suc, times-append, times-merge, Rises-snoc, IsBelow-snoc, Rises-merge, one_if, one_same}
 use Rattle.book_lock.proofs.Histories.{prefix_refl, prefix_longer, prefix_length, prefix_whole, prefix_of_two, get_prefix, get_below, get_snoc, longer_begins, longer_length}
@@ -399,8 +399,8 @@ module _ {V : Type 0} (entries : V → List Entry) (origin : V → Origin) (star
         ended = λ p n e. ender_appended (set s.views id l) k.log p n r (ender_stays s.views k.log p n id v l at (inside_of s.views id v at) (λ _ o. o) (k.ended p n e));
       }
 
-  pub cut_seat : (id : ℕ) (v : View) → 2 ≤ v.parts → Splits Rule id v (without_part v) (part_of v)
-  cut_seat id v two = split_seats id v (v.parts - 1) 1 (omega arith) (omega arith)
+  pub cut_seat : (n id : ℕ) (v : View) → 1 ≤ n → n < v.parts → Splits Rule id v (without_parts n v) (parts_from n v)
+  cut_seat n id v least less = split_seats id v (v.parts - n) n (omega arith) (omega arith)
 
   pub copy_seat : (id : ℕ) (v : View) → 0 < v.parts → Splits Rule id v v (note_of v)
   copy_seat id v some_part = split_seats id v v.parts 0 (omega arith) some_part

@@ -74,13 +74,13 @@ pub record LockRule {V : Type 0} (entries : V → List Entry) (origin : V → Or
   pub home : slice_index s.words 1 ≡ 0 → (x : V) × (s.homes ≡ some (Some x) ∷ []) × (entries x ≡ log) × (origin x ≡ start)
   pub ended : (p n : ℕ) → IsEnd log p n → HasEnder s.views log p n
 
--- a seat without one of its parts
-abbrev pub without_part : View → View
-without_part v = seat_view v.seen v.told v.own v.origin (v.parts - 1) v.holds
+-- a seat without so many of its parts
+abbrev pub without_parts : ℕ → View → View
+without_parts n v = seat_view v.seen v.told v.own v.origin (v.parts - n) v.holds
 
--- a new seat that has that part, and has seen the same
-abbrev pub part_of : View → View
-part_of v = seat_view v.seen [] [] v.origin 1 false
+-- a new seat that has these parts, and has seen the same
+abbrev pub parts_from : ℕ → View → View
+parts_from n v = seat_view v.seen [] [] v.origin n false
 
 -- a new seat that has seen the same, without a part
 abbrev pub note_of : View → View

@@ -1,5 +1,5 @@
 //! The rule of the lock, and the kinds of step that keep it. These types are for proofs alone.
-ghost use Rattle.book_lock.specs.Rule.{LockRule, newcomer, without_part, part_of, note_of, both, spent};
+ghost use Rattle.book_lock.specs.Rule.{LockRule, newcomer, without_parts, parts_from, note_of, both, spent};
 ghost use Rattle.book_lock.specs.Steps.{taken, noted, released, compared};
 
 use crate::held::Held;
@@ -59,13 +59,26 @@ impl<V> Play<Option<V>, View> for Compare {
     ghost then = { compared };
 }
 
-/// A seat with one part is cut off.
-pub struct Cut;
+/// The parts of a seat that is cut off. Each call of `split_parts` picks how many.
+pub trait Sharing {
+    ghost use Rattle.std.specs.Prelude.{ℕ};
 
-impl Split<View> for Cut {
-    ghost left = { without_part };
+    ghost parts: { ℕ };
+}
 
-    ghost right = { part_of };
+impl Sharing for Brand {
+    ghost parts = { 1 };
+}
+
+/// A seat with some of the parts is cut off.
+pub struct Cut<J> {
+    parts: PhantomData<J>,
+}
+
+impl<J: Sharing> Split<View> for Cut<J> {
+    ghost left = { without_parts J.parts };
+
+    ghost right = { parts_from J.parts };
 }
 
 /// A seat without a part, which tells what was seen.

@@ -7,11 +7,12 @@ ghost use Rattle.book_lock.specs.Rule.{both, untold};
 
 use super::BookLock;
 use crate::held::Held;
-use crate::kinds::{Both, Compare, Copy, Cut};
+use crate::kinds::{Both, Compare, Copy, Cut, Sharing};
 use crate::manner::Manner;
 use crate::pass::Pass;
 use crate::view::View;
 use atomic_table::Seat;
+use std::marker::Brand;
 
 impl<V: Held> BookLock<V> {
     // Takes in what another seat knows, and compares what both have seen.
@@ -26,7 +27,33 @@ impl<V: Held> BookLock<V> {
         self.table.shared.load::<Compare>(seat, 2);
     }
 
-    /// A pass for another caller, which has seen the same.
+    // `parts` is for the choice of the kind alone.
+    fn cut<J: Sharing>(&self, pass: &mut Pass<V>, parts: u64) -> Pass<V>
+        requires lock { pass.old.lock ≡ self.now }
+        requires off { pass.old.holds ≡ false }
+        requires parts { (1 ≤ J.parts) × (J.parts < pass.old.parts) }
+        ensures old { pass.new ≡ record pass.old { parts = pass.old.parts - J.parts } }
+        ensures new { result ≡ record pass.old { own = []; parts = J.parts } }
+    {
+        let _ = parts;
+        Pass {
+            seat: self.table.shared.split_seat::<Cut<J>>(&mut pass.seat),
+            manner: Manner::new(),
+        }
+    }
+
+    /// A pass for another caller, which has seen the same, with so many of the parts. Who gets more than one may split off further ones.
+    pub fn split_parts(&self, pass: &mut Pass<V>, parts: u64) -> Pass<V>
+        requires lock { pass.old.lock ≡ self.now }
+        requires off { pass.old.holds ≡ false }
+        requires parts { (1 ≤ parts) × (parts < pass.old.parts) }
+        ensures old { pass.new ≡ record pass.old { parts = pass.old.parts - parts } }
+        ensures new { result ≡ record pass.old { own = []; parts = parts } }
+    {
+        self.cut::<Brand>(pass, parts)
+    }
+
+    /// A pass for another caller, which has seen the same, with one part.
     pub fn split_pass(&self, pass: &mut Pass<V>) -> Pass<V>
         requires lock { pass.old.lock ≡ self.now }
         requires off { pass.old.holds ≡ false }
@@ -34,10 +61,7 @@ impl<V: Held> BookLock<V> {
         ensures old { pass.new ≡ record pass.old { parts = pass.old.parts - 1 } }
         ensures new { result ≡ record pass.old { own = []; parts = 1 } }
     {
-        Pass {
-            seat: self.table.shared.split_seat::<Cut>(&mut pass.seat),
-            manner: Manner::new(),
-        }
+        self.split_parts(pass, 1)
     }
 
     /// Takes in another pass, with its positions and its parts. Both have seen beginnings of one history, so the longer
