@@ -258,6 +258,7 @@ pub fn rotate<I: Index, D: LogDisk>(
 fn why_not<I: Index, D: LogDisk>(refused: &NotRotated<I, D>) -> Trouble {
     match refused {
         NotRotated::Kept { cause, .. } => Trouble::NotRotated(*cause),
+        NotRotated::Unsure { .. } => Trouble::SpareFailed,
         NotRotated::Uncleared { .. } => Trouble::NotEmptied,
         NotRotated::Memory { .. } => Trouble::NoLock,
     }

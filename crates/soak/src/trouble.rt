@@ -25,6 +25,8 @@ pub enum Trouble {
     NotRenewed(RenewFault),
     #[error("the store wasn't rotated: {0}")]
     NotRotated(RotateCause),
+    #[error("the store wasn't rotated: the drive of the second file failed")]
+    SpareFailed,
     #[error("the store was rotated, but the first file wasn't emptied: its drive failed")]
     NotEmptied,
     #[error("the store was renewed or rotated, but there was no memory to go on")]

@@ -148,8 +148,8 @@ module _ (w : ℕ) (cells fresh : List Cell) (old : Drive) (log : IsLog w cells 
   )
 
 -- A store that was opened over a file goes on over a second one, with whatever leaves.
-module _ {D : Type 0} (drive : D → Drive) (w bucket : ℕ) (file : List ℕ) (old : Drive) (lock : TableId) (pass last : Known) (points : ℕ) (latest : Option ℕ) (records : ℕ) (Are : List (List Bool) → Type 0) (entries : List Entry) (disk spare : D) (origin : Origin)
-    (opened : OpensStore drive w bucket file old lock pass points latest records) (one : last.origin ≡ pass.origin) (told : is_some old.bytes ≡ true) (to : RotatesTo drive w Are last entries disk spare origin) where
+module _ {D : Type 0} (drive : D → Drive) (w bucket : ℕ) (file : List ℕ) (old : Drive) (lock : TableId) (pass last : Known) (points : ℕ) (latest : Option ℕ) (records : ℕ) (Are : List (List Bool) → Type 0) (entries : List Entry) (disk spare : D) (origin : Origin) (count : ℕ)
+    (opened : OpensStore drive w bucket file old lock pass points latest records) (one : last.origin ≡ pass.origin) (told : is_some old.bytes ≡ true) (to : RotatesTo drive w Are last entries disk spare origin count) where
   -- the cells of the first file, and those of the second one
   abbrev pub cells-closed : List Cell
   cells-closed = opened.cells ++ cells_of pass.origin.world last.seen

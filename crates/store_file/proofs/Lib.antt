@@ -7,3 +7,4 @@ mod RotateFacts
 pub mod Again
 pub mod Between
 pub mod Fewest
+mod RenewFacts

@@ -23,7 +23,7 @@ use Rattle.recovery.specs.Found.{Finds, IsNewest}
 use Rattle.recovery.proofs.CallLemmas.{well-none}
 use Rattle.recovery.specs.Opening.{KeepsCells}
 use Rattle.kept_log.specs.KeptView.{KeptView}
-use Rattle.kept_log.specs.Journal.{KeepsIn, disk_in, log_in}
+use Rattle.kept_log.specs.Journal.{KeepsIn, cells_in, disk_in, log_in}
 use Rattle.kept_log.specs.Kept.{IsOpened, found_state}
 use Rattle.book_lock.specs.Own.{times, once_below}
 use Rattle.book_lock.specs.Pass.{Known}
@@ -39,11 +39,13 @@ use Rattle.log_compact.specs.Fresh.{fresh_cells}
 use Rattle.log_compact.specs.State.{IsStateOf}
 use Rattle.store_file.specs.declared.rotating.RotateCause.{RotateCause}
 use Rattle.store_file.specs.declared.rotating.RotateCause.TheVariants as cause
+use Rattle.store_file.specs.declared.rotating.BeginCause.{BeginCause}
+use Rattle.store_file.specs.declared.rotating.BeginCause.TheVariants as none_begun
 use Rattle.store_file.specs.declared.rotating.NotRotated.{NotRotated}
 use Rattle.store_file.specs.declared.rotating.NotRotated.TheVariants as back
 use Rattle.log_compact.specs.Clearing.{Clears, FailsToClear, KeepsOrClears}
 use Rattle.store_file.specs.Opened.{first_pass, found_origin}
-use Rattle.store_file.specs.Rotated.{world_left, leaves_left, cells_left, AreLeft, AreAnew, AreOfBook, AreOfSize, RotatesTo, LeavesOf, IsRotated, IsRotatedAlone, IsBookKept, NotAnew, RefusesAnew, anew_cause, IsNotRotated}
+use Rattle.store_file.specs.Rotated.{world_left, leaves_left, cells_left, AreLeft, AreAnew, AreOfBook, AreOfSize, RotatesTo, LeavesOf, IsRotated, IsRotatedAlone, IsBookKept, NotAnew, RefusesAnew, IsUnsure, NotBegins, ComesBack, begin_cause, IsNotRotated}
 use Rattle.store_file.specs.Rotated.{BeginsFresh, GoesOn, GoesAlone, GoesNot, LeavesView, Finishes, FinishesAlone, FinishesNot}
 use Rattle.store_file.proofs.StoreFacts as stores
 
@@ -105,7 +107,7 @@ of-size w b leaves seen content = subst (FitsSize w b.bucket (world_after b.open
 -- none was begun
 pub not-anew : {D : Type 0} (drive : D → Drive) (width w : ℕ) → width ≡ w → (Are : List (List Bool) → Type 0) (failed : Option ℕ) (world : World) → failed ≡ None → (spare left : D) (seen : Seen)
     → seen.world ≡ world → Are seen.leaves → (fault : CompactFault) → RefusesCompact (drive spare) (drive left) fault
-    → KeepsOnWay width (fresh_cells width seen.world seen.leaves) (drive spare) (drive left) → RefusesAnew drive w Are failed world spare left (anew_cause fault)
+    → KeepsOnWay width (fresh_cells width seen.world seen.leaves) (drive spare) (drive left) → NotBegins drive w Are failed world spare left (begin_cause fault)
 not-anew drive width w width_is Are failed world good spare left seen world_is are fault refuses on_way =
     by_fault fault (record {
       leaves = seen.leaves;
@@ -115,7 +117,7 @@ not-anew drive width w width_is Are failed world good spare left seen world_is a
           (subst (λ (n : ℕ). KeepsOnWay n (fresh_cells width seen.world seen.leaves) (drive spare) (drive left)) width_is on_way);
     })
   where
-    by_fault : (f : CompactFault) → NotAnew drive w Are world spare left f → RefusesAnew drive w Are failed world spare left (anew_cause f)
+    by_fault : (f : CompactFault) → NotAnew drive w Are world spare left f → NotBegins drive w Are failed world spare left (begin_cause f)
     by_fault (compact.InUse len) not = (good, not)
     by_fault compact.Disk not = (good, not)
 
@@ -124,18 +126,28 @@ module _ {D : Type 0} (drive : D → Drive) (w : ℕ) (Are Also : List (List Boo
   also-anew : (fault : CompactFault) → NotAnew drive w Are world spare left fault → NotAnew drive w Also world spare left fault
   also-anew fault not = record { leaves = not.leaves; leaves_are = each not.leaves not.leaves_are; refuses = not.refuses; on_way = not.on_way }
 
-  pub also-refuses : (failed : Option ℕ) (c : RotateCause) → RefusesAnew drive w Are failed world spare left c → RefusesAnew drive w Also failed world spare left c
+  also-refuses : (failed : Option ℕ) (c : RotateCause) → RefusesAnew drive w Are failed world spare left c → RefusesAnew drive w Also failed world spare left c
   also-refuses failed (cause.Closed cell) not = not
   also-refuses failed cause.Memory not = not
   also-refuses failed cause.TooLong (good, same, long) = (good, same, record { leaves = long.leaves; leaves_are = each long.leaves long.leaves_are; many = long.many })
   also-refuses failed (cause.InUse len) (good, not) = (good, also-anew (compact.InUse len) not)
-  also-refuses failed cause.Disk (good, not) = (good, also-anew compact.Disk not)
+
+  also-unsure : (failed : Option ℕ) → IsUnsure drive w Are failed world spare left → IsUnsure drive w Also failed world spare left
+  also-unsure failed (good, not) = (good, also-anew compact.Disk not)
+
+  pub also-begins : (failed : Option ℕ) (c : BeginCause) → NotBegins drive w Are failed world spare left c → NotBegins drive w Also failed world spare left c
+  also-begins failed (none_begun.Refused c) not = also-refuses failed c not
+  also-begins failed none_begun.Unsure not = also-unsure failed not
 
 -- a log as it stands has its drive, and no append of it has failed where the history says so
 module _ {D : Type 0} where
   pub drive-in : (log : Option (KeptView D)) (view : LogView D) → log_in log ≡ Some view → disk_in log ≡ Some view.disk
   drive-in None view is = absurd (true≢false (sym (ap is_some is)))
   drive-in (Some log) view is = ap (λ (v : Option (LogView D)). option_map (λ (l : LogView D). l.disk) v) is
+
+  pub count-in : (log : Option (KeptView D)) (view : LogView D) → log_in log ≡ Some view → view.cells ≡ cells_in log
+  count-in None view is = absurd (true≢false (sym (ap is_some is)))
+  count-in (Some log) view is = ap (λ (v : LogView D). v.cells) (sym (same_Some _ _ is))
 
   pub some-in : (log : Option (KeptView D)) → is_some log ≡ true → is_some (log_in log) ≡ true
   some-in None is = absurd (true≢false (sym is))
@@ -189,7 +201,10 @@ module _ {D : Type 0} (drive : D → Drive) (old new : BookView D) (leaves : Lis
   leaves-of Came left leaves = record {
     last = leaves.view.disk;
     last_is = drive-in old.log leaves.view (sym out_is ∙ leaves.view_is);
-    leaves = record { count = leaves.view.cells; came = leaves.came; keeps = leaves.keeps };
+    leaves = record {
+      came = subst (λ (n : ℕ). Came n (drive leaves.view.disk) (drive left)) (count-in old.log leaves.view (sym out_is ∙ leaves.view_is)) leaves.came;
+      keeps = leaves.keeps;
+    };
   }
 
   origin-now : origin_of drive new ≡ found_origin old.bucket seen (drive start)
@@ -214,6 +229,7 @@ module _ {D : Type 0} (drive : D → Drive) (old new : BookView D) (leaves : Lis
 
   pub goes-not : {I P : Type 0} (e : NotRotated I D P) → FinishesNot drive new h out e → GoesNot drive old seen start e
   goes-not (back.Kept book left c) on = absurd on
+  goes-not (back.Unsure book left) on = absurd on
   goes-not (back.Uncleared book entries left) on = alone-now (λ count. FailsToClear) entries book left on
   goes-not (back.Memory book entries left) on = alone-now Clears entries book left on
 
@@ -229,13 +245,29 @@ module _ {D : Type 0} (drive : D → Drive) (w : ℕ) (b : BookView D) (old : Kn
   leaves-as : (state_after w b.opening b.entries).leaves ≡ leaves_left w old.origin old.seen
   leaves-as = λ i. (state_after w (opening-is i) (value.0 i)).leaves
 
-  pub book-kept : (Are : List (List Bool) → Type 0) (spare left : D) (c : RotateCause) → RefusesAnew drive w Are (failed_cell b.entries) (world_after b.opening.world b.entries) spare left c
+  kept : IsBookKept drive old b
+  kept = record { entries_are = value.0; origin_is = value.1; has = has; logged = stores.has-log drive ⊥ (λ d. ⊤) b.log (λ none. none) starts }
+
+  book-kept : (Are : List (List Bool) → Type 0) (spare left : D) (c : RotateCause) → RefusesAnew drive w Are (failed_cell b.entries) (world_after b.opening.world b.entries) spare left c
       → IsBookKept drive old b × RefusesAnew drive w Are (failed_cell old.seen) (world_left old.origin old.seen) spare left c
   book-kept Are spare left c refuses = (
-    record { entries_are = value.0; origin_is = value.1; has = has; logged = stores.has-log drive ⊥ (λ d. ⊤) b.log (λ none. none) starts },
+    kept,
     subst (λ l. RefusesAnew drive w Are (failed_cell old.seen) l spare left c) world-as
         (subst (λ (h : List Entry). RefusesAnew drive w Are (failed_cell h) (world_after b.opening.world b.entries) spare left c) value.0 refuses),
   )
+
+  book-unsure : (Are : List (List Bool) → Type 0) (spare left : D) → IsUnsure drive w Are (failed_cell b.entries) (world_after b.opening.world b.entries) spare left
+      → IsBookKept drive old b × IsUnsure drive w Are (failed_cell old.seen) (world_left old.origin old.seen) spare left
+  book-unsure Are spare left refuses = (
+    kept,
+    subst (λ l. IsUnsure drive w Are (failed_cell old.seen) l spare left) world-as
+        (subst (λ (h : List Entry). IsUnsure drive w Are (failed_cell h) (world_after b.opening.world b.entries) spare left) value.0 refuses),
+  )
+
+  pub book-back : {I P : Type 0} (Are : List (List Bool) → Type 0) (spare left : D) (c : BeginCause) (e : NotRotated I D P)
+      → NotBegins drive w Are (failed_cell b.entries) (world_after b.opening.world b.entries) spare left c → ComesBack b left c e → IsNotRotated drive w Are old spare e
+  book-back {I = I} {P = P} Are spare left (none_begun.Refused c) e not is = subst (λ (x : NotRotated I D P). IsNotRotated drive w Are old spare x) (sym is) (book-kept Are spare left c not)
+  book-back {I = I} {P = P} Are spare left none_begun.Unsure e not is = subst (λ (x : NotRotated I D P). IsNotRotated drive w Are old spare x) (sym is) (book-unsure Are spare left not)
 
   -- the leaves of the book are those that the history left, and the size is that of the origin
   pub left-as : (leaves : List (List Bool)) → AreOfBook w b leaves → AreLeft w old.origin old.seen leaves
@@ -251,15 +283,17 @@ module _ {D : Type 0} (drive : D → Drive) (w : ℕ) (b : BookView D) (old : Kn
     world-is = world_is ∙ world-as
 
     rotates-to : (entries : List Entry) (last : D) (origin : Origin) → entries ≡ b.entries → disk_in b.log ≡ Some last → origin ≡ found_origin b.bucket seen (drive start)
-        → RotatesTo drive w Are old entries last spare origin
+        → RotatesTo drive w Are old entries last spare origin (cells_in b.log)
     rotates-to entries last origin same last_is from =
         let world : origin.world ≡ seen.world = ap (λ (o : Origin). o.world) from in
         let leaves : seen.leaves ≡ origin.leaves = sym (ap (λ (o : Origin). o.leaves) from) in
         let cells : fresh_cells w seen.world seen.leaves ≡ cells_left w old.origin old.seen origin.leaves = λ i. fresh_cells w (world-is i) (leaves i) in
         let finds : Finds w (cells_left w old.origin old.seen origin.leaves) seen = subst (λ (l : List Cell). Finds w l seen) cells begins.finds in
         let bucket : b.bucket ≡ old.origin.bucket = ap (λ (o : Origin). o.bucket) value.1 in
+        let closed = stores.closes-counted drive w ⊥ (λ d. ⊤) b old entries last is_book value own (λ none. none) starts same last_is in
         record {
-          closed = stores.closes-store drive w ⊥ (λ d. ⊤) b old entries last is_book value own (λ none. none) starts same last_is;
+          closed = closed.0;
+          counted = closed.1;
           good = sym (ap failed_cell value.0) ∙ good;
           start = start;
           compacted = subst (λ (l : List Cell). IsCompacted w l (drive spare) (drive start)) cells begins.compacted;
@@ -284,6 +318,7 @@ module _ {D : Type 0} (drive : D → Drive) (w : ℕ) (b : BookView D) (old : Kn
         let origin : pass.origin ≡ found_origin b.bucket seen (drive start) = ap (λ (k : Known). k.origin) on.pass_is in
         record {
           last = on.leaves.last;
+          count = cells_in b.log;
           to = rotates-to entries on.leaves.last pass.origin on.entries_are on.leaves.last_is origin;
           pass_is = on.pass_is ∙ ap (first_pass lock) (sym origin);
           leaves = on.leaves.leaves;
@@ -292,6 +327,7 @@ module _ {D : Type 0} (drive : D → Drive) (w : ℕ) (b : BookView D) (old : Kn
     alone : (Came : ℕ → Drive → Drive → Type 0) (entries : List Entry) (new : BookView D) (left : D) → GoesAlone drive Came b seen start entries new left → IsRotatedAlone drive w Are Came old entries spare new left
     alone Came entries new left on = record {
       last = on.leaves.last;
+      count = cells_in b.log;
       to = rotates-to entries on.leaves.last (origin_of drive new) on.entries_are on.leaves.last_is on.origin_is;
       none = on.none;
       has = on.has;
@@ -301,5 +337,6 @@ module _ {D : Type 0} (drive : D → Drive) (w : ℕ) (b : BookView D) (old : Kn
 
     pub not-rotated : {I P : Type 0} (e : NotRotated I D P) → GoesNot drive b seen start e → IsNotRotated drive w Are old spare e
     not-rotated (back.Kept book left c) on = absurd on
+    not-rotated (back.Unsure book left) on = absurd on
     not-rotated (back.Uncleared book entries left) on = alone (λ count. FailsToClear) entries book left on
     not-rotated (back.Memory book entries left) on = alone Clears entries book left on

@@ -1,5 +1,6 @@
 -- From a file that was opened to a store over it, and back to its log.
 use Rattle.std.proofs.Common.{◌≡◌, inl, inr, ⊎_elim, ◌∙◌, ℕ, ◌<◌, true, List, [], length, Option, Some, None, is_some, refl, sym, ap, subst}
+use Rattle.std.specs.Prelude.{⊤}
 use mathlib.Core.Bool.{true≢false}
 use Rattle.std.proofs.lemmas.Option.{same_Some}
 use Rattle.std.specs.Option.{option_map}
@@ -17,7 +18,7 @@ use Rattle.recovery.specs.Making.{IsSmall}
 use Rattle.recovery.proofs.OpeningLemmas.{newest_is}
 use Rattle.kept_log.specs.KeptView.{KeptView}
 use Rattle.kept_log.specs.Kept.{found_state}
-use Rattle.kept_log.specs.Journal.{KeepsIn, KeepsLog, disk_in}
+use Rattle.kept_log.specs.Journal.{KeepsIn, KeepsLog, cells_in, disk_in}
 use Rattle.kept_log.proofs.Starting.{opened-found}
 use Rattle.book_lock.specs.Own.{times, once_below}
 use Rattle.book_lock.specs.Pass.{Known}
@@ -26,6 +27,9 @@ use Rattle.commit_book.specs.BookView.{BookView}
 use Rattle.commit_book.specs.IsBook.{IsBook}
 use Rattle.commit_book.specs.OpenedLog.{IsOpenedLog}
 use Rattle.sessions.specs.Shared.{StartsAs, origin_of, start_in, start_of}
+use Rattle.sessions.specs.Renewals.{StartsBack}
+use Rattle.sessions.specs.declared.store.renewal.NotRenewed.{NotRenewed}
+use Rattle.sessions.specs.declared.store.renewal.NotRenewed.TheVariants as renewing
 use Rattle.store_file.specs.declared.faults.OpenCause.{OpenCause}
 use Rattle.store_file.specs.declared.faults.OpenCause.TheVariants as cause
 use Rattle.store_file.specs.Files.{OpensFile, FindsCells}
@@ -33,6 +37,7 @@ use Rattle.store_file.specs.Refused.{NotOpens, RefusesStore, is_bucket}
 use Rattle.store_file.specs.Opened.{OpensStore, BeginsOver, IsFirst, FindsLog, first_pass, found_origin, cells_origin}
 use Rattle.store_file.specs.Objects.{IsLatest}
 use Rattle.store_file.specs.Closed.{ClosesStore}
+use Rattle.store_file.specs.Renewed.{HasLogBack}
 use Rattle.store_file.proofs.FileFacts.{small-or-long, no-cells-told}
 
 -- a book over a log has its drive
@@ -45,6 +50,11 @@ module _ {D : Type 0} where
   has-log drive unlogged Is None logged starts = absurd (logged starts)
   has-log drive unlogged Is (Some log) logged starts = refl
 
+-- so has one that comes back of a store over a file
+pub log-back : {I D P : Type 0} (drive : D → Drive) (e : NotRenewed I D P) → StartsBack drive ⊥ (λ d. ⊤) ⊥ (λ d. ⊤) e → HasLogBack e
+log-back drive (renewing.Kept book cause) starts = has-log drive ⊥ (λ d. ⊤) book.log (λ none. none) starts
+log-back drive (renewing.Memory book entries) starts = has-log drive ⊥ (λ d. ⊤) book.log (λ none. none) starts
+
 -- what a book leaves that was closed
 module _ {D : Type 0} (drive : D → Drive) (w : ℕ) (unlogged : Type 0) (Is : Drive → Type 0) (b : BookView D) (pass : Known) (entries : List Entry) (disk : D) (is_book : IsBook drive w b)
     (value : (b.entries ≡ pass.seen) × (origin_of drive b ≡ pass.origin)) (own : (p : ℕ) → times p pass.own ≡ once_below p (length pass.seen)) (logged : unlogged → ⊥) (starts : StartsAs drive unlogged Is b.log)
@@ -52,22 +62,29 @@ module _ {D : Type 0} (drive : D → Drive) (w : ℕ) (unlogged : Type 0) (Is : 
   began-at : b.opening ≡ start_of pass.origin
   began-at = (λ i. record { world = b.opening.world; leaves = b.opening.leaves; splits = is_book.opening.rests i; begun = b.opening.begun }) ∙ ap start_of value.1
 
-  by-log : (log : Option (KeptView D)) → b.log ≡ log → ClosesStore drive w Is pass entries disk
-  by-log None is = absurd (logged (subst (StartsAs drive unlogged Is) is starts))
-  by-log (Some log) is = record {
-    entries_are = entries_are ∙ value.0;
-    own = own;
-    legal = subst (λ (s : State). IsLegal w s pass.seen) began-at (subst (λ (h : List Entry). IsLegal w b.opening h) value.0 is_book.legal);
-    log = log;
-    disk_is = same_Some log.disk disk (sym (ap disk_in is) ∙ disk_is);
-    began = sym (ap (λ (o : Origin). o.log) value.1) ∙ ap (λ (l : Option (KeptView D)). option_map (start_in drive) l) is;
-    starts = subst (StartsAs drive unlogged Is) is starts;
-    keeps = subst (λ (s : State). KeepsLog drive w s pass.seen log) began-at
-        (subst (λ (h : List Entry). KeepsLog drive w b.opening h log) value.0 (subst (λ (l : Option (KeptView D)). KeepsIn drive w b.opening b.entries l) is is_book.on_log));
-  }
+  -- the log has as many cells
+  cells-by-log : (log : Option (KeptView D)) → b.log ≡ log → (closed : ClosesStore drive w Is pass entries disk) × (closed.log.cells ≡ cells_in log)
+  cells-by-log None is = absurd (logged (subst (StartsAs drive unlogged Is) is starts))
+  cells-by-log (Some log) is = (
+    record {
+      entries_are = entries_are ∙ value.0;
+      own = own;
+      legal = subst (λ (s : State). IsLegal w s pass.seen) began-at (subst (λ (h : List Entry). IsLegal w b.opening h) value.0 is_book.legal);
+      log = log;
+      disk_is = same_Some log.disk disk (sym (ap disk_in is) ∙ disk_is);
+      began = sym (ap (λ (o : Origin). o.log) value.1) ∙ ap (λ (l : Option (KeptView D)). option_map (start_in drive) l) is;
+      starts = subst (StartsAs drive unlogged Is) is starts;
+      keeps = subst (λ (s : State). KeepsLog drive w s pass.seen log) began-at
+          (subst (λ (h : List Entry). KeepsLog drive w b.opening h log) value.0 (subst (λ (l : Option (KeptView D)). KeepsIn drive w b.opening b.entries l) is is_book.on_log));
+    },
+    refl,
+  )
+
+  pub closes-counted : (closed : ClosesStore drive w Is pass entries disk) × (closed.log.cells ≡ cells_in b.log)
+  closes-counted = cells-by-log b.log refl
 
   pub closes-store : ClosesStore drive w Is pass entries disk
-  closes-store = by-log b.log refl
+  closes-store = closes-counted.0
 
 -- a book over what was found begins as that did
 module _ {D : Type 0} (drive : D → Drive) (bucket : ℕ) (seen : Seen) (b : BookView D) (log : KeptView D) (opening : b.opening ≡ found_state seen) (sized : b.bucket ≡ bucket) (log_is : b.log ≡ Some log) where

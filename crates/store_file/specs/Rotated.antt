@@ -12,7 +12,7 @@ use Rattle.split_log.specs.LogView.{most_cells}
 use Rattle.split_log.specs.LogView.{LogView}
 use Rattle.recovery.specs.declared.seen.Seen.{Seen}
 use Rattle.recovery.specs.Found.{Finds}
-use Rattle.kept_log.specs.Journal.{disk_in}
+use Rattle.kept_log.specs.Journal.{cells_in, disk_in}
 use Rattle.commit_book.specs.OpenedLog.{IsOpenedLog}
 use Rattle.commit_book.specs.Rotation.{HasContent, HasContentAnew}
 use Rattle.book_lock.specs.Pass.{Known}
@@ -25,7 +25,9 @@ use Rattle.log_compact.specs.Fresh.{fresh_cells}
 use Rattle.log_compact.specs.State.{IsStateOf}
 use Rattle.sessions.specs.Shared.{HasWorld, origin_of, start_of}
 use Rattle.store_file.specs.declared.rotating.RotateCause.{RotateCause}
-use Rattle.store_file.specs.declared.rotating.RotateCause.TheVariants.{Closed, InUse, Disk, TooLong, Memory}
+use Rattle.store_file.specs.declared.rotating.RotateCause.TheVariants.{Closed, InUse, TooLong, Memory}
+use Rattle.store_file.specs.declared.rotating.BeginCause.{BeginCause}
+use Rattle.store_file.specs.declared.rotating.BeginCause.TheVariants as begun
 use Rattle.store_file.specs.declared.rotating.NotRotated.{NotRotated}
 use Rattle.store_file.specs.declared.rotating.NotRotated.TheVariants as back
 use Rattle.log_compact.specs.Clearing.{Clears, FailsToClear, KeepsOrClears}
@@ -62,8 +64,10 @@ AreOfSize w b leaves = FitsSize w b.bucket (world_after b.opening.world b.entrie
 -- and it keeps the history. Then only is the other one begun: it was written on the second drive as a fresh log of the objects that the
 -- history left, with such leaves, and is the one that the store begins with, whose objects and leaves are those. At each moment a crash
 -- leaves of the second file what was on the way, and nothing but these cells from the end of the writing on.
-pub record RotatesTo {D : Type 0} (drive : D → Drive) (w : ℕ) (Are : List (List Bool) → Type 0) (old : Known) (entries : List Entry) (last spare : D) (origin : Origin) : Type 0 where
+pub record RotatesTo {D : Type 0} (drive : D → Drive) (w : ℕ) (Are : List (List Bool) → Type 0) (old : Known) (entries : List Entry) (last spare : D) (origin : Origin) (count : ℕ) : Type 0 where
   pub closed : ClosesStore drive w (λ start. ⊤) old entries last
+  -- so many cells the first log has
+  pub counted : closed.log.cells ≡ count
   pub good : failed_cell old.seen ≡ None
   pub start : D
   pub compacted : IsCompacted w (cells_left w old.origin old.seen origin.leaves) (drive spare) (drive start)
@@ -75,27 +79,28 @@ pub record RotatesTo {D : Type 0} (drive : D → Drive) (w : ℕ) (Are : List (L
   pub leaves_are : Are origin.leaves
   pub world : IsWorld origin.world
 
--- How many cells the log had that was closed, and what came of its clearing. At each moment a crash leaves all its cells, or none.
-pub record LeavesLog {D : Type 0} (drive : D → Drive) (Came : ℕ → Drive → Drive → Type 0) (last left : D) : Type 0 where
-  pub count : ℕ
+-- What came of the clearing of a log of so many cells. At each moment a crash leaves all of them, or none.
+pub record LeavesLog {D : Type 0} (drive : D → Drive) (Came : ℕ → Drive → Drive → Type 0) (count : ℕ) (last left : D) : Type 0 where
   pub came : Came count (drive last) (drive left)
   pub keeps : KeepsOrClears (drive last) (drive left)
 
 -- The store, its first pass, the history of the one before, and the drive of the first log, which has no cells any more.
 pub record IsRotated {D : Type 0} (drive : D → Drive) (w : ℕ) (Are : List (List Bool) → Type 0) (old : Known) (entries : List Entry) (spare : D) (lock : TableId) (pass : Known) (left : D) : Type 0 where
   pub last : D
-  pub to : RotatesTo drive w Are old entries last spare pass.origin
+  pub count : ℕ
+  pub to : RotatesTo drive w Are old entries last spare pass.origin count
   pub pass_is : pass ≡ first_pass lock pass.origin
-  pub leaves : LeavesLog drive Clears last left
+  pub leaves : LeavesLog drive Clears count last left
 
 -- The book alone, which goes on over the second log, and has no entries.
 pub record IsRotatedAlone {D : Type 0} (drive : D → Drive) (w : ℕ) (Are : List (List Bool) → Type 0) (Came : ℕ → Drive → Drive → Type 0) (old : Known) (entries : List Entry) (spare : D) (b : BookView D) (left : D) : Type 0 where
   pub last : D
-  pub to : RotatesTo drive w Are old entries last spare (origin_of drive b)
+  pub count : ℕ
+  pub to : RotatesTo drive w Are old entries last spare (origin_of drive b) count
   pub none : b.entries ≡ []
   pub has : HasWorld b
   pub logged : is_some b.log ≡ true
-  pub leaves : LeavesLog drive Came last left
+  pub leaves : LeavesLog drive Came count last left
 
 -- the book as it was
 pub record IsBookKept {D : Type 0} (drive : D → Drive) (old : Known) (b : BookView D) : Type 0 where
@@ -105,9 +110,9 @@ pub record IsBookKept {D : Type 0} (drive : D → Drive) (old : Known) (b : Book
   pub logged : is_some b.log ≡ true
 
 -- what a fault of the fresh log is told as
-abbrev pub anew_cause : CompactFault → RotateCause
-anew_cause (compact.InUse len) = InUse len
-anew_cause compact.Disk = Disk
+abbrev pub begin_cause : CompactFault → BeginCause
+begin_cause (compact.InUse len) = begun.Refused (InUse len)
+begin_cause compact.Disk = begun.Unsure
 
 -- a fresh log wasn't written for this fault: the file is longer than 17 bytes, and was left as it was, or the drive failed
 pub record NotAnew {D : Type 0} (drive : D → Drive) (w : ℕ) (Are : List (List Bool) → Type 0) (world : World) (spare left : D) (fault : CompactFault) : Type 0 where
@@ -122,20 +127,35 @@ pub record IsTooLong (w : ℕ) (Are : List (List Bool) → Type 0) (world : Worl
   pub leaves_are : Are leaves
   pub many : most_cells < length (fresh_cells w world leaves)
 
--- Why a store of this world doesn't go on over the second drive with such leaves, whose append failed where one did, and what that leaves
--- of the drive: an append of it has failed; they are too many for a log; memory ran out; or no log was written.
+-- Why a store of this world doesn't go on over the second drive with such leaves, whose append failed where one did, though nothing was
+-- written there: an append of it has failed; they are too many for a log; memory ran out; or its file is longer than a log of no cells.
 abbrev pub RefusesAnew : {D : Type 0} → (D → Drive) → ℕ → (List (List Bool) → Type 0) → Option ℕ → World → D → D → RotateCause → Type 0
 RefusesAnew drive w Are failed world spare left (Closed cell) = (failed ≡ Some cell) × (left ≡ spare)
 RefusesAnew drive w Are failed world spare left Memory = (failed ≡ None) × (left ≡ spare)
 RefusesAnew drive w Are failed world spare left TooLong = (failed ≡ None) × (left ≡ spare) × IsTooLong w Are world
 RefusesAnew drive w Are failed world spare left (InUse len) = (failed ≡ None) × NotAnew drive w Are world spare left (compact.InUse len)
-RefusesAnew drive w Are failed world spare left Disk = (failed ≡ None) × NotAnew drive w Are world spare left compact.Disk
 
--- What comes back where no store does: the book as it was, over its log, and the second drive; or the book over the second log, where the
--- drive of the first one failed while its log was cleared, or memory ran out once it was.
+-- The second drive failed. At each moment a crash leaves there what is on the way to the fresh log, which may be all of it.
+abbrev pub IsUnsure : {D : Type 0} → (D → Drive) → ℕ → (List (List Bool) → Type 0) → Option ℕ → World → D → D → Type 0
+IsUnsure drive w Are failed world spare left = (failed ≡ None) × NotAnew drive w Are world spare left compact.Disk
+
+-- the one or the other
+abbrev pub NotBegins : {D : Type 0} → (D → Drive) → ℕ → (List (List Bool) → Type 0) → Option ℕ → World → D → D → BeginCause → Type 0
+NotBegins drive w Are failed world spare left (begun.Refused cause) = RefusesAnew drive w Are failed world spare left cause
+NotBegins drive w Are failed world spare left begun.Unsure = IsUnsure drive w Are failed world spare left
+
+-- the book comes back with the second drive, as the cause is
+abbrev pub ComesBack : {I D P : Type 0} → BookView D → D → BeginCause → NotRotated I D P → Type 0
+ComesBack b left (begun.Refused cause) e = e ≡ back.Kept b left cause
+ComesBack b left begun.Unsure e = e ≡ back.Unsure b left
+
+-- What comes back where no store does: the book as it was, over its log, and the second drive, which was left alone, or failed; or the book
+-- over the second log, where the drive of the first one failed while its log was cleared, or memory ran out once it was.
 abbrev pub IsNotRotated : {I D P : Type 0} → (D → Drive) → ℕ → (List (List Bool) → Type 0) → Known → D → NotRotated I D P → Type 0
 IsNotRotated drive w Are old spare (back.Kept book left cause) =
     IsBookKept drive old book × RefusesAnew drive w Are (failed_cell old.seen) (world_left old.origin old.seen) spare left cause
+IsNotRotated drive w Are old spare (back.Unsure book left) =
+    IsBookKept drive old book × IsUnsure drive w Are (failed_cell old.seen) (world_left old.origin old.seen) spare left
 IsNotRotated drive w Are old spare (back.Uncleared book entries left) = IsRotatedAlone drive w Are (λ count. FailsToClear) old entries spare book left
 IsNotRotated drive w Are old spare (back.Memory book entries left) = IsRotatedAlone drive w Are Clears old entries spare book left
 
@@ -164,7 +184,7 @@ pub record BeginsAnew {D : Type 0} (drive : D → Drive) (w : ℕ) (b : BookView
 pub record LeavesOf {D : Type 0} (drive : D → Drive) (Came : ℕ → Drive → Drive → Type 0) (b : BookView D) (left : D) : Type 0 where
   pub last : D
   pub last_is : disk_in b.log ≡ Some last
-  pub leaves : LeavesLog drive Came last left
+  pub leaves : LeavesLog drive Came (cells_in b.log) last left
 
 -- A store goes on from a book over another log, in which this was found on a drive as it was then, and the log so far was cleared.
 pub record GoesOn {D : Type 0} (drive : D → Drive) (b : BookView D) (seen : Seen) (start : D) (entries : List Entry) (lock : TableId) (pass : Known) (left : D) : Type 0 where
@@ -183,6 +203,7 @@ pub record GoesAlone {D : Type 0} (drive : D → Drive) (Came : ℕ → Drive �
 
 abbrev pub GoesNot : {I D P : Type 0} → (D → Drive) → BookView D → Seen → D → NotRotated I D P → Type 0
 GoesNot drive b seen start (back.Kept book left cause) = ⊥
+GoesNot drive b seen start (back.Unsure book left) = ⊥
 GoesNot drive b seen start (back.Uncleared book entries left) = GoesAlone drive (λ count. FailsToClear) b seen start entries book left
 GoesNot drive b seen start (back.Memory book entries left) = GoesAlone drive Clears b seen start entries book left
 
@@ -207,5 +228,6 @@ pub record FinishesAlone {D : Type 0} (drive : D → Drive) (Came : ℕ → Driv
 
 abbrev pub FinishesNot : {I D P : Type 0} → (D → Drive) → BookView D → List Entry → Option (LogView D) → NotRotated I D P → Type 0
 FinishesNot drive b h log (back.Kept book left cause) = ⊥
+FinishesNot drive b h log (back.Unsure book left) = ⊥
 FinishesNot drive b h log (back.Uncleared book entries left) = FinishesAlone drive (λ count. FailsToClear) b h log entries book left
 FinishesNot drive b h log (back.Memory book entries left) = FinishesAlone drive Clears b h log entries book left

@@ -29,6 +29,6 @@ pub use closing::{ClosedStore, close_over, close_store};
 pub use either::{OpenedEither, Which, open_either};
 pub use faults::{EitherCause, NotEither, NotOpened, OpenCause};
 pub use opening::{LEAST_BUCKET, MOST_BUCKET, OpenedStore, open_over, open_store};
-pub use renewing::renew_store;
+pub use renewing::{renew_book, renew_store};
 pub use rotating::{NotRotated, RotateCause, Rotated, rotate_anew, rotate_store};
 pub use start::OverFile;

@@ -7,7 +7,7 @@ ghost use Rattle.split_log.specs.LogView.{LogView};
 ghost use Rattle.commit_book.specs.IsBook.{IsBook};
 ghost use Rattle.sessions.specs.Steps.{all_parts};
 ghost use Rattle.store_file.specs.Rotated.{AreLeft, AreAnew, AreOfBook, AreOfSize, BeginsAnew, BeginsAsIs, BeginsFresh};
-ghost use Rattle.store_file.specs.Rotated.{Finishes, FinishesNot, IsRotated, IsNotRotated, RefusesAnew, anew_cause};
+ghost use Rattle.store_file.specs.Rotated.{Finishes, FinishesNot, IsRotated, IsNotRotated, NotBegins, ComesBack, begin_cause};
 
 use crate::start::OverFile;
 use book_lock::Pass;
@@ -32,7 +32,7 @@ pub struct Rotated<I: Index, D: LogDisk> {
     pub spare: D,
 }
 
-/// Why a store doesn't go on over a second file, where nothing was done to its log.
+/// Why a store doesn't go on over a second file. Nothing was done to its log, and nothing was written to the second file.
 #[derive(Clone, Copy, Debug, PartialEq, Eq, Error)]
 pub enum RotateCause {
     /// The append of this record has failed.
@@ -41,8 +41,6 @@ pub enum RotateCause {
     /// The second file has more than 17 bytes, this many.
     #[error("the second file has {len} bytes")]
     InUse { len: u64 },
-    #[error("the drive of the second file failed")]
-    Disk,
     /// There are too many objects and leaves for a log.
     #[error("there are too many objects and leaves for a log")]
     TooLong,
@@ -53,11 +51,19 @@ pub enum RotateCause {
 /// Why there is no store, and its book. The store has ended.
 #[derive(Drop)]
 pub enum NotRotated<I: Index, D: LogDisk> {
-    /// The book as it was, and the second drive.
+    /// The book as it was, and the second drive, whose file has no record of it. Unless the cause is `Closed`, `renew_book` goes on
+    /// with the book over its own file, and the store can be rotated later.
     Kept {
         book: Book<I, D>,
         spare: D,
         cause: RotateCause,
+    },
+    /// The book as it was, but the second drive failed: its file may have all objects by now, or none, and after a crash too. Nothing may be
+    /// appended to the first log while the second one has records: else an opening of both files finds two logs that differ. The way on is
+    /// to drop the book and to open both files with `open_either`.
+    Unsure {
+        book: Book<I, D>,
+        spare: D,
     },
     /// The book goes on over the second file, but the first drive failed while its log was emptied. Nothing may be appended to the
     /// second log before the first one has no records: else an opening of both files finds two logs that differ.
@@ -80,10 +86,18 @@ struct Begun<I: Index, D: LogDisk> {
     opened: Opened<D>,
 }
 
+// Why no log was begun on the second drive.
+enum BeginCause {
+    // Nothing was written there.
+    Refused { cause: RotateCause },
+    // The drive failed.
+    Unsure,
+}
+
 // The second drive, where no log was begun on it.
-struct NotAnew<D: LogDisk> {
+struct NotBegun<D: LogDisk> {
     disk: D,
-    cause: RotateCause,
+    cause: BeginCause,
 }
 
 /// Ends a store over a file, and begins one with an empty history over a second file, which has at most 17 bytes: the objects and the
@@ -105,11 +119,7 @@ pub fn rotate_store<I: Index, D: LogDisk>(
     let book = store.close(pass);
     match begin_as_is(&book, spare) {
         Ok(opened) => finish(alloc, book.rotate(alloc, opened)),
-        Err(NotAnew { disk, cause }) => Err(NotRotated::Kept {
-            book,
-            spare: disk,
-            cause,
-        }),
+        Err(NotBegun { disk, cause }) => Err(not_rotated(book, disk, cause)),
     }
 }
 
@@ -132,33 +142,23 @@ pub fn rotate_anew<I: Index, D: LogDisk>(
     let book = store.close(pass);
     match begin_anew(alloc, &book, spare) {
         Ok(Begun { index, opened }) => finish(alloc, book.rotate_anew(alloc, index, opened)),
-        Err(NotAnew { disk, cause }) => Err(NotRotated::Kept {
-            book,
-            spare: disk,
-            cause,
-        }),
+        Err(NotBegun { disk, cause }) => Err(not_rotated(book, disk, cause)),
     }
 }
 
 // Writes the objects and the leaves of a book as a fresh log on this drive.
-fn begin_as_is<I: Index, D: LogDisk>(book: &Book<I, D>, spare: D) -> Result<Opened<D>, NotAnew<D>>
+fn begin_as_is<I: Index, D: LogDisk>(book: &Book<I, D>, spare: D) -> Result<Opened<D>, NotBegun<D>>
     ensures begun { IfOk result (λ o. BeginsAsIs D.drive I.WIDTH book.now spare o.seen o.start.value o.log) }
-    ensures refused { IfErr result (λ e. RefusesAnew D.drive I.WIDTH (AreOfBook I.WIDTH book.now) (failed_cell book.now.entries)
+    ensures refused { IfErr result (λ e. NotBegins D.drive I.WIDTH (AreOfBook I.WIDTH book.now) (failed_cell book.now.entries)
         (world_after book.now.opening.world book.now.entries) spare e.disk e.cause) }
     ensures book { IsBook D.drive I.WIDTH book.now }
 {
     if let Some(cell) = book.closed() {
-        return Err(NotAnew {
-            disk: spare,
-            cause: RotateCause::Closed { cell },
-        });
+        return Err(refused(spare, RotateCause::Closed { cell }));
     }
     match book.content() {
         Ok(content) => begin_with::<I, D>(content, spare),
-        Err(_) => Err(NotAnew {
-            disk: spare,
-            cause: RotateCause::Memory,
-        }),
+        Err(_) => Err(refused(spare, RotateCause::Memory)),
     }
 }
 
@@ -167,24 +167,18 @@ fn begin_anew<I: Index, D: LogDisk>(
     alloc: Global,
     book: &Book<I, D>,
     spare: D,
-) -> Result<Begun<I, D>, NotAnew<D>>
+) -> Result<Begun<I, D>, NotBegun<D>>
     ensures begun { IfOk result (λ b. BeginsAnew D.drive I.WIDTH book.now spare (I.leaves b.index)
         b.opened.seen b.opened.start.value b.opened.log) }
-    ensures refused { IfErr result (λ e. RefusesAnew D.drive I.WIDTH (AreOfSize I.WIDTH book.now) (failed_cell book.now.entries)
+    ensures refused { IfErr result (λ e. NotBegins D.drive I.WIDTH (AreOfSize I.WIDTH book.now) (failed_cell book.now.entries)
         (world_after book.now.opening.world book.now.entries) spare e.disk e.cause) }
     ensures book { IsBook D.drive I.WIDTH book.now }
 {
     if let Some(cell) = book.closed() {
-        return Err(NotAnew {
-            disk: spare,
-            cause: RotateCause::Closed { cell },
-        });
+        return Err(refused(spare, RotateCause::Closed { cell }));
     }
     let Ok(Anew { index, content }) = book.anew(alloc) else {
-        return Err(NotAnew {
-            disk: spare,
-            cause: RotateCause::Memory,
-        });
+        return Err(refused(spare, RotateCause::Memory));
     };
     match begin_with::<I, D>(content, spare) {
         Ok(opened) => Ok(Begun { index, opened }),
@@ -193,35 +187,59 @@ fn begin_anew<I: Index, D: LogDisk>(
 }
 
 // Writes objects and leaves as a fresh log on this drive.
-fn begin_with<I: Index, D: LogDisk>(content: Content, spare: D) -> Result<Opened<D>, NotAnew<D>>
+fn begin_with<I: Index, D: LogDisk>(content: Content, spare: D) -> Result<Opened<D>, NotBegun<D>>
     requires comes { ComesBySplits I.WIDTH content.leaves }
     requires world { IsWorld content.world }
     ensures begun { IfOk result (λ o. BeginsFresh D.drive I.WIDTH spare o.seen o.start.value o.log) }
     ensures seen { IfOk result (λ o. (o.seen.world ≡ content.world) × (o.seen.leaves ≡ content.leaves)) }
-    ensures refused { IfErr result (λ e. RefusesAnew D.drive I.WIDTH (λ leaves. leaves ≡ content.leaves) None content.world spare e.disk e.cause) }
+    ensures refused { IfErr result (λ e. NotBegins D.drive I.WIDTH (λ leaves. leaves ≡ content.leaves) None content.world spare e.disk e.cause) }
 {
     let width = I::WIDTH;
     let Some(seen) = fresh_seen(content.world, content.leaves, width) else {
-        return Err(NotAnew {
-            disk: spare,
-            cause: RotateCause::TooLong,
-        });
+        return Err(refused(spare, RotateCause::TooLong));
     };
     match begin_log(seen, width, spare) {
         Ok(opened) => Ok(opened),
-        Err(CompactRefused { disk, cause }) => Err(NotAnew {
+        Err(CompactRefused { disk, cause }) => Err(NotBegun {
             disk,
-            cause: anew_cause(cause),
+            cause: begin_cause(cause),
         }),
     }
 }
 
-fn anew_cause(fault: CompactFault) -> RotateCause
-    ensures { result ≡ anew_cause fault }
+// The second drive, on which nothing was written.
+fn refused<D: LogDisk>(disk: D, cause: RotateCause) -> NotBegun<D>
+    ensures { result ≡ record { disk = disk; cause = BeginCause.Refused cause } }
+{
+    NotBegun {
+        disk,
+        cause: BeginCause::Refused { cause },
+    }
+}
+
+// A longer file than that of a log without records was left alone; a drive that failed may have written some or all.
+fn begin_cause(fault: CompactFault) -> BeginCause
+    ensures { result ≡ begin_cause fault }
 {
     match fault {
-        CompactFault::InUse { len } => RotateCause::InUse { len },
-        CompactFault::Disk => RotateCause::Disk,
+        CompactFault::InUse { len } => BeginCause::Refused {
+            cause: RotateCause::InUse { len },
+        },
+        CompactFault::Disk => BeginCause::Unsure,
+    }
+}
+
+// The book comes back, of which no log was begun.
+fn not_rotated<I: Index, D: LogDisk>(
+    book: Book<I, D>,
+    spare: D,
+    cause: BeginCause,
+) -> NotRotated<I, D>
+    ensures { ComesBack book spare cause result }
+{
+    match cause {
+        BeginCause::Refused { cause } => NotRotated::Kept { book, spare, cause },
+        BeginCause::Unsure => NotRotated::Unsure { book, spare },
     }
 }
 

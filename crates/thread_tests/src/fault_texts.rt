@@ -1,11 +1,11 @@
-//! What a refused call, a refused renewal, and an opening of two files that is refused, are told as.
+//! What a refused call, a refused renewal or rotation, and an opening of two files that is refused, are told as.
 use commit_book::RenewFault;
 use recovery::OpenFault;
 use sessions::CallFault;
 use std::alloc::Global;
 use std::fmt::Display;
 use std::process::Abort;
-use store_file::{EitherCause, OpenCause};
+use store_file::{EitherCause, OpenCause, RotateCause};
 
 const REFUSED: &[(CallFault, &str)] = &[
     (
@@ -63,6 +63,22 @@ const NOT_OPENED: &[(EitherCause, &str)] = &[
     (EitherCause::Memory, "out of memory"),
 ];
 
+const NOT_ROTATED: &[(RotateCause, &str)] = &[
+    (
+        RotateCause::Closed { cell: 3 },
+        "the append of record 3 has failed",
+    ),
+    (
+        RotateCause::InUse { len: 18 },
+        "the second file has 18 bytes",
+    ),
+    (
+        RotateCause::TooLong,
+        "there are too many objects and leaves for a log",
+    ),
+    (RotateCause::Memory, "out of memory"),
+];
+
 fn expect_text(rt: &impl Abort, alloc: Global, fault: &impl Display, text: &str) {
     let told = format!(in alloc; "{fault}").expect(rt, "it failed");
     assert_same!(rt; told.as_str(), text);
@@ -85,6 +101,13 @@ fn a_refused_renewal_tells_its_cause(rt: HostRuntime) {
 #[test]
 fn two_files_that_are_not_opened_tell_their_cause(rt: HostRuntime) {
     for (fault, text) in NOT_OPENED {
+        expect_text(&rt, rt.alloc(), fault, text);
+    }
+}
+
+#[test]
+fn a_refused_rotation_tells_its_cause(rt: HostRuntime) {
+    for (fault, text) in NOT_ROTATED {
         expect_text(&rt, rt.alloc(), fault, text);
     }
 }

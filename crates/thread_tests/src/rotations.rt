@@ -108,6 +108,21 @@ const ON_SPARE: &[(DiskCall, u64, Which, u64)] = &[
 ];
 
 // Both drives of a rotation whose second drive fails, the one of the book first.
+fn unsure<I: Index, D: LogDisk, R: Wait + Abort>(
+    rt: &R,
+    alloc: Global,
+    disk: D,
+    spare: D,
+    leaves: Leaves,
+) -> (Option<D>, D) {
+    let (store, pass) = filled::<I, D, R>(rt, alloc, disk);
+    match rotate(alloc, store, pass, spare, leaves) {
+        Err(NotRotated::Unsure { book, spare }) => (book.into_parts().disk, spare),
+        _ => rt.panic("the second drive doesn't fail"),
+    }
+}
+
+// Both drives of a rotation into a file that is in use, and why there is none.
 fn kept<I: Index, D: LogDisk, R: Wait + Abort>(
     rt: &R,
     alloc: Global,
@@ -188,14 +203,23 @@ fn keeps_its_book<R: Wait + Abort>(
 ) {
     let one = disk_with(rt, alloc, &[]);
     let two = disk_of(rt, alloc, &[], &[failing]);
-    let (cause, one, two) = kept::<FlatIndex, MemDisk, R>(rt, alloc, one, two, leaves);
+    let (one, two) = unsure::<FlatIndex, MemDisk, R>(rt, alloc, one, two, leaves);
     let one = one.expect(rt, "the book has no log");
-    assert_same!(rt; cause, RotateCause::Disk);
     expect_bytes(rt, alloc, &one, FILLED);
     expect_after_crashes(rt, alloc, (&one, one.moments()), (&two, two.moments()));
     let (which, records) = wanted;
     let found = (2, Some(20), records, FIRST_TWO);
     expect_in(rt, alloc, one, two, (which, found));
+}
+
+fn leaves_a_file_in_use<R: Wait + Abort>(rt: &R, alloc: Global, leaves: Leaves) {
+    let (one, two) = (disk_with(rt, alloc, &[]), disk_with(rt, alloc, GONE_ON));
+    let (cause, one, two) = kept::<FlatIndex, MemDisk, R>(rt, alloc, one, two, leaves);
+    let one = one.expect(rt, "the book has no log");
+    assert_same!(rt; cause, RotateCause::InUse { len: 113 });
+    expect_bytes(rt, alloc, &one, FILLED);
+    expect_bytes(rt, alloc, &two, GONE_ON);
+    assert_same!(rt; two.moments(), 0);
 }
 
 // The calls of a rotation on the first drive, by which its log is cleared. Before them come nine writes and ten syncs: the log was made by
@@ -264,6 +288,12 @@ fn a_second_drive_that_fails_leaves_the_first_log(rt: HostRuntime) {
         keeps_its_book(&rt, rt.alloc(), Leaves::AsTheyAre, failing, wanted);
         keeps_its_book(&rt, rt.alloc(), Leaves::Anew, failing, wanted);
     }
+}
+
+#[test]
+fn a_second_file_in_use_is_left_alone(rt: HostRuntime) {
+    leaves_a_file_in_use(&rt, rt.alloc(), Leaves::AsTheyAre);
+    leaves_a_file_in_use(&rt, rt.alloc(), Leaves::Anew);
 }
 
 #[test]

@@ -1,5 +1,5 @@
 use Rattle.store_file.proofs.Results.{ok-with, err-with}
-use Rattle.store_file.proofs.RotateFacts.{is-rotated, not-rotated, goes-on, goes-not, book-kept, left-as, also-refuses}
+use Rattle.store_file.proofs.RotateFacts.{is-rotated, not-rotated, goes-on, goes-not, book-back, left-as, also-begins}
 use Rattle.store_file.proofs.rotating.rotate_store.Goals as goal
 
 pub returns-in-Ok-clause-rotated : goal.returns-in-Ok-clause-rotated
@@ -40,8 +40,9 @@ pub returns-in-Err-clause-refused : goal.returns-in-Err-clause-refused
 returns-in-Err-clause-refused g c =
     let closed = c.close-book.ensures in
     let e = c.in-Err.field-0 in
-    book-kept g.D.LogDisk.drive g.I.Index.WIDTH c.close-book.result c.args.pass c.in-Err.ensures.book closed.value closed.own closed.start closed.world
-    _ c.args.spare e.disk e.cause
-    (also-refuses g.D.LogDisk.drive g.I.Index.WIDTH _ _
+    book-back g.D.LogDisk.drive g.I.Index.WIDTH c.close-book.result c.args.pass c.in-Err.ensures.book closed.value closed.own closed.start closed.world
+    _ c.args.spare e.disk e.cause _
+    (also-begins g.D.LogDisk.drive g.I.Index.WIDTH _ _
     (left-as g.D.LogDisk.drive g.I.Index.WIDTH c.close-book.result c.args.pass c.in-Err.ensures.book closed.value closed.own closed.start closed.world)
     _ _ _ _ e.cause c.in-Err.ensures.refused)
+    c.not_rotated.ensures
