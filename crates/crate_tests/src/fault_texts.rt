@@ -1,5 +1,8 @@
-//! What faults of fences are told as.
-use fence_watch::{BadFences, WatchFault};
+//! What faults of fences and of a follower are told as.
+use cell_format::Cell;
+use fence_watch::{AlongFault, BadFences, WatchFault};
+use follower::FollowFault;
+use recovery::{OpenFault, Walked};
 use std::alloc::Global;
 use std::fmt::Display;
 use std::process::Abort;
@@ -22,6 +25,25 @@ const WATCHED: &[(WatchFault, &str)] = &[
     (WatchFault::Memory, "out of memory"),
 ];
 
+const FOLLOWED: &[(FollowFault, &str)] = &[
+    (
+        FollowFault::Strange { cell: 3 },
+        "cell 3 isn't the leader's",
+    ),
+    (
+        FollowFault::Log {
+            fault: OpenFault::TooLong { most: 16_777_216 },
+        },
+        "more than 16777216 cells",
+    ),
+    (
+        FollowFault::Append { cell: 3 },
+        "the drive failed at cell 3",
+    ),
+    (FollowFault::Disk, "the drive failed"),
+    (FollowFault::Memory, "out of memory"),
+];
+
 pub(crate) fn expect_text(rt: &impl Abort, alloc: Global, fault: &impl Display, text: &str) {
     let told = format!(in alloc; "{fault}").expect(rt, "it failed");
     assert_same!(rt; told.as_str(), text);
@@ -37,6 +59,41 @@ fn a_fault_of_fences_tells_its_place(rt: HostRuntime) {
 #[test]
 fn a_fault_of_a_step_tells_its_cause(rt: HostRuntime) {
     for (fault, text) in WATCHED {
+        expect_text(&rt, rt.alloc(), fault, text);
+    }
+}
+
+fn stopped(fault: WatchFault) -> AlongFault {
+    let walked = Walked {
+        at: 3,
+        cell: Cell::Remove { id: 7 },
+        before: None,
+        after: None,
+    };
+    AlongFault::Watch { fault, walked }
+}
+
+#[test]
+fn a_fault_along_a_log_tells_its_cause(rt: HostRuntime) {
+    let told = [
+        (
+            stopped(WatchFault::TooMany),
+            "a step wasn't made: there would be more than 4,194,304 events",
+        ),
+        (
+            stopped(WatchFault::Memory),
+            "a step wasn't made: out of memory",
+        ),
+        (AlongFault::Log(OpenFault::NotLog), "the file is no log"),
+    ];
+    for (fault, text) in &told {
+        expect_text(&rt, rt.alloc(), fault, text);
+    }
+}
+
+#[test]
+fn a_refused_follower_tells_its_cause(rt: HostRuntime) {
+    for (fault, text) in FOLLOWED {
         expect_text(&rt, rt.alloc(), fault, text);
     }
 }

@@ -326,7 +326,7 @@ module _ {D : Type 0} (drive : D → Drive) (w : ℕ) (cells : List Cell) (first
 
       stop-cause : (why : FollowFault) → IsTurnCause drive cells (get_or turns made d) f disk why → ((e : OpenFault) → why ≡ fault.Log e → MayTell newest (Some w) most_cells e)
           → IsStop w (length cells) f.state (drop made turns) start (drive disk) (follow_refusal why)
-      stop-cause (fault.Strange cell) is may = ((opens_again is.0, untold_since is.1), is.2)
+      stop-cause (fault.Strange cell) is may = ((opens_again is.0, untold_since is.1), omega (arith, is.2.2))
       stop-cause (fault.Log open_fault.Disk) is may = (opens_again is.0, rose_since is.1)
       stop-cause (fault.Log open_fault.Memory) is may = tt
       stop-cause (fault.Log open_fault.NotLog) is may = (opens_again is.0, untold_since is.1)

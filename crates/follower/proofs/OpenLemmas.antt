@@ -386,7 +386,7 @@ module _ (w : ℕ) (cells : List Cell) (a b : Drive) (long : (bytes : List ℕ) 
       other_untold c n re bytes told = let found = is.found bytes told in re.cause.1 bytes found.own (is.reads.stays.bytes ∙ told) found.openable.recovers found.count_is
 
       again_cause : (c : Drive) (fault : FollowFault) → RefusesReopen w count b c fault → IsOpenCause w cells a c fault
-      again_cause c (Strange n) re = (omega (arith, re.cause.0, few_cells), λ bytes told. absurd (other_untold c n re bytes told))
+      again_cause c (Strange n) re = (omega (arith, re.cause.0.2, few_cells), λ bytes told. absurd (other_untold c n re bytes told))
       again_cause c (Log e) re = λ bytes told. (long bytes told, re.cause bytes (is.reads.stays.bytes ∙ told))
       again_cause c (Append n) re = re.cause
       again_cause c Disk re = absurd re.cause

@@ -1,5 +1,5 @@
 -- The opening of a log with another number of cells than it had.
-use Rattle.std.proofs.Common.{◌≡◌, ◌≢◌, inl, inr, ⊎_elim, ℕ, ◌≤◌, true, false, None, Some, length, refl, sym, ◌∙◌, ap, subst, arith}
+use Rattle.std.proofs.Common.{◌≡◌, ◌≢◌, inl, inr, ⊎_elim, ℕ, ◌≤◌, min, true, false, None, Some, length, refl, sym, ◌∙◌, ap, subst, arith}
 use Rattle.std.proofs.lemmas.Bool.{true≢false}
 use Rattle.cell_format.specs.Spelling.{newest}
 use Rattle.disk_trait.specs.Drive.{Drive}
@@ -15,10 +15,10 @@ use Rattle.follower.specs.Faults.{is_drives}
 use Rattle.follower.specs.Reopening.{Reopens, RefusesReopen}
 
 pub other_count : {D : Type 0} (drive : D → Drive) (w count number : ℕ) (seen : Seen) (a : Drive) (b c : D) → c ≡ b → IsReady w seen a (drive b) → KeepsCells w a (drive b)
-    → seen.cells ≢ count → number ≤ count → RefusesReopen w count a (drive c) (Strange number)
+    → seen.cells ≢ count → number ≡ min count seen.cells → RefusesReopen w count a (drive c) (Strange number)
 other_count drive w count number seen a b c back ready kept other least = subst (λ d. RefusesReopen w count a (drive d) (Strange number)) (sym back) (record {
   cause = (
-    least,
+    (seen.cells, other, least),
     λ bytes own told recovers count_is.
         let (found, found_count, there, log) = ready.log bytes told in
         let one : found ≡ own = holds-same there.version recovers.version w found own bytes there.holds recovers.holds in

@@ -1,5 +1,5 @@
 -- The opening of a log of which it's known how many cells it has.
-use Rattle.std.specs.Prelude.{◌≡◌, ◌≢◌, ◌⊎◌, ℕ, ◌≤◌, true, false, List, length, Some, None, is_some}
+use Rattle.std.specs.Prelude.{◌≡◌, ◌≢◌, ◌⊎◌, ℕ, ◌≤◌, min, true, false, List, length, Some, None, is_some}
 use Rattle.causes.specs.Causes.{Rose}
 use Rattle.cell_format.specs.declared.cell.Cell.{Cell}
 use Rattle.cell_format.specs.Spelling.{newest}
@@ -29,10 +29,14 @@ pub record Reopens {D : Type 0} (drive : D → Drive) (w count : ℕ) (old : Dri
   pub any_moment : KeepsCells w old (drive log.disk)
   pub newest : KeepsNewest old (drive log.disk)
 
+-- the lesser of a number of cells and of another one, which the drive told
+abbrev pub IsLesserOf : ℕ → ℕ → Type 0
+IsLesserOf count number = (other : ℕ) × (other ≢ count) × (number ≡ min count other)
+
 -- why it wasn't: it has another number of cells, which no bytes do that recover to so many; or it was refused as it stands
 abbrev pub IsReopenCause : ℕ → ℕ → Drive → FollowFault → Type 0
 IsReopenCause w count old (Strange number) =
-    (number ≤ count) × ((bytes : List ℕ) (own : List Cell) → old.bytes ≡ Some bytes → Recovers w own bytes → length own ≡ count → ⊥)
+    IsLesserOf count number × ((bytes : List ℕ) (own : List Cell) → old.bytes ≡ Some bytes → Recovers w own bytes → length own ≡ count → ⊥)
 IsReopenCause w count old (Log fault) = (bytes : List ℕ) → old.bytes ≡ Some bytes → IsFault newest (Some w) most_cells bytes fault
 IsReopenCause w count old _ = ⊥
 

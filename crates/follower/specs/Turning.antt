@@ -17,7 +17,7 @@ use Rattle.follower.specs.declared.turns.Turn.TheVariants.{Send, Arrive, Restart
 use Rattle.follower.specs.Follow.{Following, after_turn, cell_of}
 use Rattle.follower.specs.Holding.{FollowerView, HoldsFirst, RecoversFirst, LeavesFirst, IsUntold}
 use Rattle.follower.specs.Faults.{is_drives, most_left}
-use Rattle.follower.specs.Reopening.{CallsUnopened}
+use Rattle.follower.specs.Reopening.{CallsUnopened, IsLesserOf}
 
 -- a packet that brings the next cell of so many
 abbrev pub BringsNext : ℕ → Following → Turn → Type 0
@@ -49,7 +49,7 @@ TakesRoom _ = ⊥
 -- Why a turn wasn't made. Where the bytes are known, a log that is opened again is refused for the drive or for memory alone. An append that
 -- failed is that of the next cell, which a crash leaves or doesn't. Where the memory for what is sent ran out, nothing was done.
 abbrev pub IsTurnCause : {D : Type 0} → (D → Drive) → List Cell → Turn → FollowerView D → D → FollowFault → Type 0
-IsTurnCause drive cells turn old disk (Strange cell) = (turn ≡ Restart) × IsUntold (drive old.disk) × (cell ≤ old.state.held)
+IsTurnCause drive cells turn old disk (Strange cell) = (turn ≡ Restart) × IsUntold (drive old.disk) × IsLesserOf old.state.held cell
 IsTurnCause drive cells turn old disk (Log open_fault.Disk) = (turn ≡ Restart) × Rose (drive old.disk).faults (drive disk).faults
 IsTurnCause drive cells turn old disk (Log open_fault.Memory) = turn ≡ Restart
 IsTurnCause drive cells turn old disk (Log fault) = (turn ≡ Restart) × IsUntold (drive old.disk)

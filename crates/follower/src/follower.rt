@@ -87,6 +87,20 @@ impl<D: LogDisk> Follower<D> {
         }
     }
 
+    /// How many packets were sent. A turn may name each of them, from 1 on.
+    pub fn packets(&self) -> usize
+        ensures { result ≡ length self.now.state.packets }
+    {
+        self.packets.len()
+    }
+
+    /// How many acknowledgements were sent. A turn may name each of them, from 1 on.
+    pub fn acks(&self) -> usize
+        ensures { result ≡ length self.now.state.acks }
+    {
+        self.acks.len()
+    }
+
     /// The drive, whatever stands on it.
     pub fn give_back(self) -> D
         ensures { result ≡ self.disk }

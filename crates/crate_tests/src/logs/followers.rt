@@ -14,8 +14,8 @@ const PUT_8: Cell = Cell::Put {
     moment: 11,
 };
 
-// What a follower reports that is brought the next cell of the leader, and its drive.
-fn follow_on<D: LogDisk>(alloc: Global, disk: D) -> Option<(Report, D)> {
+// What a follower reports that is brought the next cell of the leader, how much was sent each way, and its drive.
+fn follow_on<D: LogDisk>(alloc: Global, disk: D) -> Option<(Report, [usize; 2], D)> {
     let cells = [PUT_7];
     let Ok(follower) = Follower::open(alloc, disk, &cells, 1) else {
         return None;
@@ -28,15 +28,17 @@ fn follow_on<D: LogDisk>(alloc: Global, disk: D) -> Option<(Report, D)> {
         .turn(&grown, &Turn::Arrive { packet: 1 })
         .ok()?;
     let Turned { follower, report } = came;
-    Some((report, follower.give_back()))
+    let sent = [follower.packets(), follower.acks()];
+    Some((report, sent, follower.give_back()))
 }
 
 fn expect_follows(rt: &impl Abort, alloc: Global) {
     let held = log_of(rt, alloc, &[PUT_7], b"\0");
     let disk = disk_of(rt, alloc, held.as_slice(), &[]);
-    let (report, disk) = follow_on::<MemDisk>(alloc, disk).expect(rt, "it doesn't follow");
+    let (report, sent, disk) = follow_on::<MemDisk>(alloc, disk).expect(rt, "it doesn't follow");
     let wanted = log_of(rt, alloc, &[PUT_7, PUT_8], b"\0");
     assert_same!(rt; report, Report { held: 2, known: 0 });
+    assert_same!(rt; sent, [1, 1]);
     assert_same!(rt; disk.bytes(), wanted.as_slice());
 }
 

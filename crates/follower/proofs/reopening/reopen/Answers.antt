@@ -1,11 +1,10 @@
-use Rattle.std.proofs.Common.{arith}
 use Rattle.follower.proofs.ReopenLemmas.{other_count, same_count, not_opened}
 use Rattle.follower.proofs.reopening.reopen.Goals as goal
 
 pub returns-then-opened-count-clause-refused : goal.returns-then-opened-count-clause-refused
 returns-then-opened-count-clause-refused g c =
     other_count g.D.LogDisk.drive c.args.width c.args.count c.min.result c.in-Ok.opened.seen (g.D.LogDisk.drive c.args.disk) c.in-Ok.opened.log.disk c.give_back.result c.give_back.ensures c.in-Ok.ensures.opened.ready
-    (c.in-Ok.ensures.any_moment.cells c.args.width) c.if-opened-count.true (omega (arith, c.min.ensures))
+    (c.in-Ok.ensures.any_moment.cells c.args.width) c.if-opened-count.true c.min.ensures
 
 pub returns-clause-opened : goal.returns-clause-opened
 returns-clause-opened g c =
