@@ -77,10 +77,7 @@ impl Driver {
     // Tells the yard what a report has changed, if anything.
     fn watch(&mut self, change: Option<Change>) -> Result<(), WatchFault> {
         match change {
-            Some(change) => {
-                self.yard
-                    .moved(change.place, change.id, change.before, change.after)
-            }
+            Some(change) => self.yard.changed(&change),
             None => Ok(()),
         }
     }

@@ -15,10 +15,9 @@ use Rattle.recovery.specs.Walks.{ComesTo, TellsAll, TellsFault, TellsWalked, Wal
 use Rattle.recovery.proofs.OnlyReading.{stays-trans}
 use Rattle.fence_watch.specs.declared.fences.Event.{Event}
 use Rattle.fence_watch.specs.declared.fences.Fence.{Fence}
-use Rattle.fence_watch.specs.declared.along.AlongFault.TheVariants.{Watch}
 use Rattle.fence_watch.specs.declared.watch.WatchFault.{WatchFault}
 use Rattle.fence_watch.specs.declared.watch.WatchFault.TheVariants.{TooMany}
-use Rattle.fence_watch.specs.Alongs.{GoesAlong, IsLed}
+use Rattle.fence_watch.specs.Alongs.{IsLed, StopsAt}
 use Rattle.fence_watch.specs.Tallies.{IsPast, Tallies, TalliesFrom, TallyView, events_told}
 use Rattle.fence_watch.specs.Watches.{most_events}
 use Rattle.fence_watch.proofs.Following.{next-behind}
@@ -125,15 +124,19 @@ module _ (first now new : Drive) (reads : OnlyReads {T = Unit {0}} first now (Ok
         let tells = next.tells w most (front ++ are.cells) are.came in
         led w most front begun taken fences walk after v are (Err e) next (tells.0, tells.1, λ bytes told. tells.2 bytes (reads.stays.bytes ∙ told))
 
-    -- where the tally takes no step, and so stays
+    -- where the tally makes no step, and so stays
     pub led-cell : (walked : Walked) → NextTells now new walk after (Ok (Some walked)) → (why : WatchFault) (left : TallyView) → left ≡ v
-        → (◌≡◌ {A = Result (Unit {0}) WatchFault} (Err why) (Err TooMany)) ↔ IsPast walked v → GoesAlong w most front begun taken fences first new after left (Err (Watch why))
+        → (◌≡◌ {A = Result (Unit {0}) WatchFault} (Err why) (Err TooMany)) ↔ IsPast walked v → StopsAt w most front begun taken fences first new after left why walked
+    unfolding led
     led-cell walked next why left same many =
-        let stopped : (v : TallyView) → IsLed w most front begun taken fences first new after v (Ok (Some walked)) → (◌≡◌ {A = Result (Unit {0}) WatchFault} (Err why) (Err TooMany)) ↔ IsPast walked v
-        → GoesAlong w most front begun taken fences first new after v (Err (Watch why)) =
-        λ v led many. (walked, led, ((λ e. many.0 (ap (λ (f : WatchFault). Err f) e)), (λ past. why-same why TooMany (many.1 past)))) in
-        subst (λ (v : TallyView). GoesAlong w most front begun taken fences first new after v (Err (Watch why))) (sym same)
-        (stopped v (led w most front begun taken fences walk after v are (Ok (Some walked)) next (next.tells w most (front ++ are.cells) are.came)) many)
+        let tells = next.tells w most (front ++ are.cells) are.came in
+        let stopped : StopsAt w most front begun taken fences first new after v why walked = record {
+          led = led w most front begun taken fences walk after v are (Ok (Some walked)) next tells;
+          full = ((λ e. many.0 (ap (λ (f : WatchFault). Err f) e)), (λ past. why-same why TooMany (many.1 past)));
+          next = tells.1;
+          came = subst (λ (l : List Cell). ComesTo w most l new after) (append_assoc front are.cells (walked.cell ∷ [])) tells.0;
+        } in
+        subst (λ (v : TallyView). StopsAt w most front begun taken fences first new after v why walked) (sym same) stopped
 
     pub behind-next : (walked : Walked) (next : TallyView) → TellsWalked w most (front ++ are.cells) now new after (Ok (Some walked)) → Tallies walked v next → AreBehind w most front begun taken fences new after next
     behind-next walked next tells tallies = record {

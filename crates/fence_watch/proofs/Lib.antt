@@ -10,6 +10,7 @@ pub mod Parts
 pub mod AlongParts
 pub mod Tallying
 pub mod WorldSteps
+pub mod HistorySteps
 pub mod Alonging
 pub mod Guarding
 pub mod Answering

@@ -1,16 +1,17 @@
 -- How a tally goes along the cells that a walk has before it.
-use Rattle.std.specs.Prelude.{◌≡◌, ◌↔◌, ◌≤◌, ℕ, List, ◌++◌, length, Option, Some, None, Result, Ok, Err}
+use Rattle.std.specs.Prelude.{◌≡◌, ◌↔◌, ◌≤◌, ℕ, List, [], ◌∷◌, ◌++◌, length, Option, Some, None, Result, Ok, Err}
 use Rattle.cell_format.specs.declared.cell.Cell.{Cell}
 use Rattle.disk_trait.specs.Drive.{Drive}
 use Rattle.log_state.specs.Recovers.{Recovers, state_of}
 use Rattle.recovery.specs.declared.seen.OpenFault.{OpenFault}
 use Rattle.recovery.specs.declared.walked.Walked.{Walked}
 use Rattle.recovery.specs.Faults.{IsFault, IsInBytes}
-use Rattle.recovery.specs.Walks.{TellsAll, TellsFault, TellsWalked, WalkView}
+use Rattle.recovery.specs.Walks.{ComesTo, IsNextWalked, TellsAll, TellsFault, TellsWalked, WalkView}
 use Rattle.fence_watch.specs.declared.along.AlongFault.{AlongFault}
 use Rattle.fence_watch.specs.declared.along.AlongFault.TheVariants.{Watch, Log}
 use Rattle.fence_watch.specs.declared.fences.Event.{Event}
 use Rattle.fence_watch.specs.declared.fences.Fence.{Fence}
+use Rattle.fence_watch.specs.declared.watch.WatchFault.{WatchFault}
 use Rattle.fence_watch.specs.declared.watch.WatchFault.TheVariants.{TooMany}
 use Rattle.fence_watch.specs.Tallies.{IsPast, TalliesFrom, TallyView}
 
@@ -27,16 +28,24 @@ pub record IsLed {D : Type 0} (w most : ℕ) (front begun : List Cell) (taken : 
   pub whole : (all : List Cell) (bytes : List ℕ) → old.bytes ≡ Some bytes → Recovers w all bytes → length all ≤ most
       → TellsAll all (front ++ cells) old new told
 
--- a tally was led to the log's end; or up to the cell that it didn't take; or up to what the walk came upon
+-- A tally was led up to the cell of a step that it didn't make: too many events would be there if and only if that is the cause. With that
+-- step it stands behind the same cells as the walk, so that it may be led on from there.
+pub record StopsAt {D : Type 0} (w most : ℕ) (front begun : List Cell) (taken : List Event) (fences : List Fence) (old new : Drive)
+    (walk : WalkView D) (v : TallyView) (fault : WatchFault) (walked : Walked) : Type 0 where
+  pub led : IsLed w most front begun taken fences old new walk v (Ok (Some walked))
+  pub full : (fault ≡ TooMany) ↔ IsPast walked v
+  pub next : IsNextWalked w (front ++ led.cells) walked
+  pub came : ComesTo w most (front ++ (led.cells ++ walked.cell ∷ [])) new walk
+
+-- a tally was led to the log's end; or up to the cell of a step that it didn't make; or up to what the walk came upon
 abbrev pub GoesAlong : {D : Type 0} → ℕ → ℕ → List Cell → List Cell → List Event → List Fence → Drive → Drive → WalkView D → TallyView
     → Result (Unit {0}) AlongFault → Type 0
 GoesAlong w most front begun taken fences old new walk v (Ok done) = IsLed w most front begun taken fences old new walk v (Ok None)
 GoesAlong w most front begun taken fences old new walk v (Err (Log e)) = IsLed w most front begun taken fences old new walk v (Err e)
-GoesAlong w most front begun taken fences old new walk v (Err (Watch why)) =
-    (walked : Walked) × IsLed w most front begun taken fences old new walk v (Ok (Some walked)) × ((why ≡ TooMany) ↔ IsPast walked v)
+GoesAlong w most front begun taken fences old new walk v (Err (Watch fault walked)) = StopsAt w most front begun taken fences old new walk v fault walked
 
 -- what the walk answered last, as far as its drive goes
 abbrev pub read_of : Result (Unit {0}) AlongFault → Result (Unit {0}) OpenFault
 read_of (Ok done) = Ok done
 read_of (Err (Log e)) = Err e
-read_of (Err (Watch why)) = Ok tt
+read_of (Err (Watch fault walked)) = Ok tt

@@ -10,6 +10,7 @@ pub mod Passages
 pub mod Guards
 pub mod Counts
 pub mod Tallies
+pub mod Told
 pub mod Alongs
 pub mod Kept
 pub mod Examples

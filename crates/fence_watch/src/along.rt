@@ -13,14 +13,18 @@ ghost use Rattle.fence_watch.specs.Alongs.{GoesAlong, read_of};
 use crate::tally::Tally;
 use crate::watch::WatchFault;
 use disk_trait::LogDisk;
-use recovery::{OpenFault, Walk};
+use recovery::{OpenFault, Walk, Walked};
+use thiserror::Error;
 
 /// Why a tally didn't come to the end of a log.
-#[derive(Clone, Copy, Debug, PartialEq, Eq)]
+#[derive(Clone, Copy, Debug, PartialEq, Error)]
 pub enum AlongFault {
-    /// The walk went over a cell that the tally didn't take.
-    Watch(WatchFault),
-    /// What the walk came upon behind the cells that were taken.
+    /// The walk went over this step, and the tally didn't make it. Hand the step to `Tally::step` before `along` is called again: then no
+    /// cell is left out. If there were too many events, take them out first.
+    #[error("a step wasn't made: {fault}")]
+    Watch { fault: WatchFault, walked: Walked },
+    /// What the walk came upon after the cells whose steps were made.
+    #[error("{0}")]
     Log(OpenFault),
 }
 
@@ -41,7 +45,7 @@ impl Tally {
             match walk.next() {
                 Ok(Some(walked)) => {
                     if let Err(fault) = self.step(&walked) {
-                        return Err(AlongFault::Watch(fault));
+                        return Err(AlongFault::Watch { fault, walked });
                     }
                 }
                 Ok(None) => return Ok(()),

@@ -2,8 +2,9 @@
 //!
 //! Contracts see a `Tally` as its fences, each with how many are inside it, and the events that weren't taken out. From a world on, after
 //! steps along cells, its events are the `crossings_from` there, and the numbers those of the objects that the cells leave in each fence
-//! (`TalliesFrom`); after a program's own steps (`moved`) the numbers are those of the world that its operations leave (`FollowsWorld`). A
-//! `Watch` is a tally with the ids inside each fence beside it. Fences are read from a text (`read_fences`) or made (`Fences::of`).
+//! (`TalliesFrom`); after a program's own steps (`moved`) the numbers are those of the world that its operations leave (`FollowsWorld`); and
+//! after the changes of a history, each told once and in order (`changed`), both are those of the history (`TalliesChanges`). A `Watch` is a
+//! tally with the ids inside each fence beside it. Fences are read from a text (`read_fences`) or made (`Fences::of`).
 //!
 //! Not here: how a log is walked (`recovery`), how lines are written (`watch_run`).
 #![tactic(auto)]

@@ -4,7 +4,11 @@ ghost use Rattle.std.specs.Prelude.{Err, Some, true, IfOk, OnOk, OnErr};
 ghost use Rattle.cell_format.specs.declared.cell.Cell.{Cell};
 ghost use Rattle.plain_list.specs.World.{World};
 ghost use Rattle.plain_list.specs.declared.ops.Op.{Op};
+ghost use Rattle.plain_list.specs.declared.entries.Entry.{Entry};
+ghost use Rattle.plain_list.specs.declared.object_changes.Change.{Change};
 ghost use Rattle.plain_list.specs.Answer.{answer_of, after_of};
+ghost use Rattle.plain_list.specs.Changes.{change_of, changes_of};
+ghost use Rattle.plain_list.specs.History.{world_after};
 ghost use Rattle.recovery.specs.Walks.{object_of, IsNextWalked};
 ghost use Rattle.fence_watch.specs.declared.fences.Fence.{Fence};
 ghost use Rattle.fence_watch.specs.declared.fences.Event.{Event};
@@ -15,12 +19,13 @@ ghost use Rattle.fence_watch.specs.Watches.{most_events};
 ghost use Rattle.fence_watch.specs.Counts.{fences_counted};
 ghost use Rattle.fence_watch.specs.Tallies.{Shows, Tallies, TalliesBy, TalliesFrom, TalliesCells, IsPast, IsPastBy, count_in};
 ghost use Rattle.fence_watch.specs.Tallies.{FollowsWorld, IsStepOf};
+ghost use Rattle.fence_watch.specs.Told.{TalliesChanges, changes_crossings};
 
 use crate::counts::{FenceCount, Step, counted, pass_counted, uncounted};
 use crate::fences::{Event, Fences};
 use crate::passages::{Chart, Pair, Went, crossed};
 use crate::watch::{WatchFault, object_of};
-use plain_list::World;
+use plain_list::{Change, World};
 use recovery::Walked;
 use std::alloc::Global;
 use std::marker::Model;
@@ -53,7 +58,8 @@ impl Model for Tally {
 impl Tally {
     /// No cell was followed yet, and nobody is inside.
     pub fn new(alloc: Global, fences: &Fences) -> Result<Tally, Memory>
-        ensures { IfOk result (λ t. TalliesCells [] [] fences.now t) }
+        ensures follows { IfOk result (λ t. TalliesCells [] [] fences.now t) }
+        ensures changes { IfOk result (λ t. TalliesChanges [] [] [] fences.now t) }
     {
         Ok(Tally {
             counts: uncounted(alloc, fences.as_slice())?,
@@ -66,6 +72,7 @@ impl Tally {
     pub fn over(alloc: Global, fences: &Fences, world: &World) -> Result<Tally, Memory>
         ensures from { IfOk result (λ t. (at : ℕ) → TalliesFrom at world.now [] [] fences.now t) }
         ensures world { IfOk result (λ t. FollowsWorld world.now fences.now t) }
+        ensures changes { IfOk result (λ t. TalliesChanges world.now [] [] fences.now t) }
     {
         Ok(Tally {
             counts: counted(alloc, fences.as_slice(), world.as_slice())?,
@@ -82,6 +89,8 @@ impl Tally {
             → taken ++ result.now ≡ crossings cells fences }
         ensures from { (at : ℕ) (world : World) (taken : List Event) (cells : List Cell) (fences : List Fence)
             → TalliesFrom at world taken cells fences self.now → taken ++ result.now ≡ crossings_from at world cells fences }
+        ensures changes { (world : World) (taken : List Event) (changes : List Change) (fences : List Fence)
+            → TalliesChanges world taken changes fences self.now → taken ++ result.now ≡ changes_crossings changes fences }
     {
         self.events.as_slice()
     }
@@ -94,6 +103,8 @@ impl Tally {
         ensures from { (at : ℕ) (world : World) (taken : List Event) (cells : List Cell) (fences : List Fence)
             → TalliesFrom at world taken cells fences self.now → result.now ≡ map (count_in (world_after_cells world cells)) fences }
         ensures world { (world : World) (fences : List Fence) → FollowsWorld world fences self.now → result.now ≡ map (count_in world) fences }
+        ensures history { (world : World) (h : List Entry) (taken : List Event) (fences : List Fence)
+            → TalliesChanges world taken (changes_of world h) fences self.now → result.now ≡ map (count_in (world_after world h)) fences }
     {
         self.counts.as_slice()
     }
@@ -150,6 +161,21 @@ impl Tally {
         )
     }
 
+    /// Goes on with a change that a call has made in a store. A tally that is told the changes of a history in the order of their places has
+    /// their crossings as its events, and the numbers of the history's world.
+    pub fn changed(&mut self, change: &Change) -> Result<(), WatchFault>
+        ensures ok { OnOk result (TalliesBy change.now.place (Some change.now.id) change.now.before change.now.after self.old self.new) }
+        ensures world { OnOk result ((world : World) (op : Op) (fences : List Fence) → FollowsWorld world fences self.old
+            → change_of change.now.place op (answer_of world op) ≡ Some change.now → FollowsWorld (after_of world op) fences self.new) }
+        ensures changes { OnOk result ((world : World) (taken : List Event) (changes : List Change) (fences : List Fence)
+            → TalliesChanges world taken changes fences self.old → TalliesChanges world taken (changes ++ change.now ∷ []) fences self.new) }
+        ensures err { OnErr result (self.new ≡ self.old) }
+        ensures too_many { (result ≡ Err WatchFault.TooMany)
+            ↔ IsPastBy change.now.place (Some change.now.id) change.now.before change.now.after self.old }
+    {
+        self.moved(change.place, change.id, change.before, change.after)
+    }
+
     /// Takes the events out, so that there is room for as many again. How many are inside stays.
     pub fn take_events(&mut self, alloc: Global) -> Vec<Event>
         ensures events { result.items ≡ self.old.events }
@@ -159,6 +185,8 @@ impl Tally {
         ensures from { (at : ℕ) (world : World) (taken : List Event) (cells : List Cell) (fences : List Fence)
             → TalliesFrom at world taken cells fences self.old → TalliesFrom at world (taken ++ result.items) cells fences self.new }
         ensures world { (world : World) (fences : List Fence) → FollowsWorld world fences self.old → FollowsWorld world fences self.new }
+        ensures changes { (world : World) (taken : List Event) (changes : List Change) (fences : List Fence)
+            → TalliesChanges world taken changes fences self.old → TalliesChanges world (taken ++ result.items) changes fences self.new }
     {
         replace(&mut self.events, Vec::new(alloc))
     }

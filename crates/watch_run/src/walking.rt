@@ -100,7 +100,7 @@ fn go_along<D: LogDisk>(walk: &mut Walk<D>, watch: &mut Tally) -> Result<(), Ref
 {
     match watch.along(walk) {
         Ok(()) => Ok(()),
-        Err(AlongFault::Watch(fault)) => Err(watch_refusal(fault)),
+        Err(AlongFault::Watch { fault, walked: _ }) => Err(watch_refusal(fault)),
         Err(AlongFault::Log(fault)) => Err(log_refusal(fault)),
     }
 }

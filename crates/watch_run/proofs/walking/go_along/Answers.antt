@@ -22,8 +22,8 @@ returns-in-Err-Watch g c =
     rw c.watch_refusal.ensures
     (record {
       along = λ fences begun.
-          let led = told.along _ most_inspected [] [] [] fences begun.started.comes begun.none in
-          stops-led _ fences _ _ _ _ begun.started.width told.few led.0 led.1 (calm-reads _ _ _ told.reads) c.in-Err-Watch.fault led.2.0;
+          let stops = told.along _ most_inspected [] [] [] fences begun.started.comes begun.none in
+          stops-led _ fences _ _ _ _ begun.started.width told.few _ stops.led (calm-reads _ _ _ told.reads) c.in-Err-Watch.fault stops.full.0;
     })
 
 pub returns-in-Err-Log : goal.returns-in-Err-Log

@@ -19,9 +19,9 @@ invariant_of-result c =
     }
 
 pub returns : goal.returns
-returns c = record {
-  rising = tt;
-  few = omega arith;
-  events = c.new-2.ensures.items;
-  counts = c.in_ok-uncounted.ensures ∙ ap (λ (l : List Fence). map uncounted l) c.as_slice.ensures.fences;
-}
+returns c =
+    let counts = c.in_ok-uncounted.ensures ∙ ap (λ (l : List Fence). map uncounted l) c.as_slice.ensures.fences in
+    record {
+      follows = record { rising = tt; few = omega arith; events = c.new-2.ensures.items; counts = counts };
+      changes = record { rising = tt; few = omega arith; events = c.new-2.ensures.items; counts = counts };
+    }

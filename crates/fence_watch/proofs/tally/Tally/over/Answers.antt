@@ -28,4 +28,5 @@ returns c =
     record {
       from = λ at. record { rising = is.rising; few = few; events = c.new-2.ensures.items; counts = counts };
       world = record { rising = is.rising; few = few; counts = counts };
+      changes = record { rising = is.rising; few = few; events = c.new-2.ensures.items; counts = counts };
     }

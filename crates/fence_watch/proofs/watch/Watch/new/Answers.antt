@@ -18,7 +18,7 @@ invariant_of-result c =
     let same : fences_of (guards_of c.in_ok-guard.field-0.items) ≡ c.args.fences =
     ap fences_of c.in_ok-guard.ensures.guards ∙ unguarded c.as_slice.result.now ∙ c.as_slice.ensures.fences in
     record {
-      fences = same ∙ sym (counted-in [] c.args.fences) ∙ ap fences_counted (sym c.in_ok-new.ensures.counts);
+      fences = same ∙ sym (counted-in [] c.args.fences) ∙ ap fences_counted (sym c.in_ok-new.ensures.follows.counts);
       rising = c.in_ok-guard.ensures.rising;
       few = omega (arith, ap length same, c.as_slice.ensures.rules.most);
     }
@@ -26,6 +26,6 @@ invariant_of-result c =
 pub returns : goal.returns
 returns c = record {
   rising = tt;
-  events = c.in_ok-new.ensures.events;
+  events = c.in_ok-new.ensures.follows.events;
   guards = c.in_ok-guard.ensures.guards ∙ ap (λ (l : List Fence). map unguarded_by l) c.as_slice.ensures.fences;
 }
