@@ -58,6 +58,3 @@ returns-in-Err-clause-exact g c = c.in-Err.ensures.refused.fault.exact
 
 pub returns-in-Err-clause-whole : goal.returns-in-Err-clause-whole
 returns-in-Err-clause-whole g c = λ w cells recovers. c.in-Err.ensures.refused.named recovers.bytes w recovers.told recovers.known (recovers_width w cells recovers.bytes recovers.known recovers.recovers)
-
-pub walk_leader-requires : goal.walk_leader-requires
-walk_leader-requires g c = c.in-Ok.ensures.begins.along.comes
