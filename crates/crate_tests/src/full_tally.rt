@@ -27,11 +27,7 @@ const BOX: Region = Region {
 
 // One object goes in and out, at each cell through all fences.
 fn cell(number: u64) -> Cell {
-    let at = if number % 2 == 0 {
-        INSIDE
-    } else {
-        OUTSIDE
-    };
+    let at = if number % 2 == 0 { INSIDE } else { OUTSIDE };
     if number == 0 {
         Cell::Put {
             id: 1,
