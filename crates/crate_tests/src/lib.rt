@@ -45,8 +45,6 @@ mod folder;
 #[cfg(test)]
 mod forgetful;
 #[cfg(test)]
-mod full_tally;
-#[cfg(test)]
 mod index;
 #[cfg(test)]
 mod keys;
