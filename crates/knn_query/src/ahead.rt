@@ -14,16 +14,18 @@ use zorder::{Name, Point, Region, child};
 /// the order of the heap, the nearer subtree is the greater one.
 #[derive(Clone, Copy, Drop)]
 #[derive_where(PartialEq, Eq, PartialOrd, Ord)]
-pub(crate) struct Ahead {
-    pub(crate) least: Reverse<u128>,
+pub struct Ahead {
+    /// The least squared distance of a point in the region.
+    pub least: Reverse<u128>,
     #[derive_where(skip)]
-    pub(crate) name: Name,
+    pub name: Name,
     #[derive_where(skip)]
-    pub(crate) region: Region,
+    pub region: Region,
 }
 
 impl Ahead {
-    pub(crate) fn at(name: Name, from: Point) -> Ahead
+    /// The subtree of a name, as seen from a point.
+    pub fn at(name: Name, from: Point) -> Ahead
         ensures name { result.name ≡ name }
         ensures ahead { IsAhead from result }
     {
@@ -31,7 +33,7 @@ impl Ahead {
     }
 
     /// Returns the halves for the next bit 0 and 1.
-    pub(crate) fn halves(&self, from: Point) -> (Ahead, Ahead)
+    pub fn halves(&self, from: Point) -> (Ahead, Ahead)
         requires room { length self.now.name < 64 }
         requires ahead { IsAhead from self.now }
         ensures names { (result.0.name ≡ self.now.name ++ false ∷ []) × (result.1.name ≡ self.now.name ++ true ∷ []) }
@@ -59,14 +61,14 @@ impl Ahead {
 /// A subtree that isn't opened yet, and its place in the index.
 #[derive(Drop)]
 #[derive_where(PartialEq, Eq, PartialOrd, Ord)]
-pub(crate) struct Waiting<P> {
-    pub(crate) ahead: Ahead,
+pub struct Waiting<P> {
+    pub ahead: Ahead,
     #[derive_where(skip)]
-    pub(crate) place: P,
+    pub place: P,
 }
 
 /// Removes the nearest subtree from the heap and returns it.
-pub(crate) fn take_nearest<P: Drop>(waiting: &mut BinaryHeap<Waiting<P>>) -> Option<Waiting<P>>
+pub fn take_nearest<P: Drop>(waiting: &mut BinaryHeap<Waiting<P>>) -> Option<Waiting<P>>
     requires { IsHeap waiting_cmp (heap_items waiting.old) }
     ensures taken { MatchOption result (heap_items waiting.old ≡ []) (λ next. IsNearest next (heap_items waiting.old) (heap_items waiting.new)) }
     ensures ordered { IsHeap waiting_cmp (heap_items waiting.new) }

@@ -8,15 +8,17 @@ use zorder::{Placed, Point};
 /// An object and its squared distance, ordered as in the answer: by distance, and at the same distance by id.
 #[derive(Clone, Copy, Drop)]
 #[derive_where(PartialEq, Eq, PartialOrd, Ord)]
-pub(crate) struct Candidate {
-    pub(crate) distance: u128,
-    pub(crate) id: u64,
+pub struct Candidate {
+    /// The squared distance.
+    pub distance: u128,
+    pub id: u64,
     #[derive_where(skip)]
-    pub(crate) at: Point,
+    pub at: Point,
 }
 
 impl Candidate {
-    pub(crate) fn new(m: Placed, from: Point) -> Candidate
+    /// An object with its squared distance to a point.
+    pub fn new(m: Placed, from: Point) -> Candidate
         ensures object { object_of result ≡ m }
         ensures measured { IsMeasured from result }
     {
@@ -33,7 +35,8 @@ impl Candidate {
         u64::try_from(self.distance).unwrap_or(u64::MAX)
     }
 
-    pub(crate) fn placed(&self) -> Placed
+    /// The object without its distance.
+    pub fn placed(&self) -> Placed
         ensures { result ≡ object_of self.now }
     {
         Placed {

@@ -5,6 +5,9 @@
 //! (Hjaltason and Samet): it takes subtrees by the least distance of their region. It opens only leaves whose region
 //! may have a point as near as the k-th object. Of the objects that it has seen, it keeps the `k` nearest.
 //!
+//! The parts that every search by distance needs are public: `Ahead` and `Waiting` are subtrees that wait in a heap,
+//! and `Candidate` is an object with its distance.
+//!
 //! Not here: the ranking with which the contract compares the result (`plain_list`).
 #![tactic(auto)]
 
@@ -14,4 +17,6 @@ mod kept;
 mod ranking;
 mod reach;
 
-pub use ranking::nearest;
+pub use ahead::{Ahead, Waiting, take_nearest};
+pub use candidate::Candidate;
+pub use ranking::{halves_at, nearest};

@@ -128,9 +128,9 @@ fn nearest_leaf<'a, I: Index>(
     Ok(None)
 }
 
-// Returns two halves with their places, the nearer first.
+/// Returns two halves with their places, the nearer first.
 #[inline(always)]
-fn halves_at<P: Drop>(ahead: &Ahead, from: Point, zero: P, one: P) -> (Waiting<P>, Waiting<P>)
+pub fn halves_at<P: Drop>(ahead: &Ahead, from: Point, zero: P, one: P) -> (Waiting<P>, Waiting<P>)
     requires room { length ahead.now.name < 64 }
     requires ahead { IsAhead from ahead.now }
     ensures { AreHalves from ahead.now zero one result.0 result.1 }
