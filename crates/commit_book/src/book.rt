@@ -2,6 +2,7 @@
 ghost use Rattle.std.specs.Prelude.{◌≡◌, ◌^◌, ◌<◌, true, false, [], Some, None, is_some, length, IfOk, IfErr};
 ghost use Rattle.index_layer.specs.Leaves.{names_of};
 ghost use Rattle.plain_list.specs.Size.{full_leaf};
+ghost use Rattle.plain_list.specs.History.{call_count};
 ghost use Rattle.plain_list.specs.State.{empty_state, state_after};
 ghost use Rattle.plain_list.specs.Answer.{is_change};
 ghost use Rattle.kept_log.specs.Kept.{found_state};
@@ -146,6 +147,15 @@ impl<I: Index, D: LogDisk> Book<I, D> {
     {
         self.keep();
         self.history.len() as u64
+    }
+
+    /// How many of the entries are calls. It is the place of the last call, and 0 if there is none.
+    pub fn calls(&self) -> u64
+        ensures calls { result ≡ call_count self.now.entries }
+        ensures book { IsBook D.drive I.WIDTH self.now }
+    {
+        self.keep();
+        self.history.calls()
     }
 
     /// Whether there is a log. If so, each change waits for its device.
