@@ -21,8 +21,8 @@ pub record IsUncommitted (width at : ℕ) (cells more : List Cell) (drive : Driv
 
 -- What is on the drive after a failed append: a write of cells after a commit byte, then the three calls that set it.
 -- The first `went_well` calls went well, and the next one failed. If the write or the first sync failed, no crash
--- leaves any of the new cells. If a later call failed, the new cells were written and synced before the commit byte
--- was.
+-- leaves any of the new cells. If a later call failed, every image has them whole after that commit byte, which may be
+-- clear or set.
 pub record StandsAfter (width : ℕ) (cells more : List Cell) (went_well : ℕ) (old new : Drive) : Type 0 where
   pub unstaged : went_well ≤ 1 → LeavesOnly old new (HoldsCells newest width cells)
   pub staged : 2 ≤ went_well → LeavesNow new (IsStaged width cells more)
