@@ -1,4 +1,4 @@
--- What a log keeps with one entry more.
+-- What a log keeps with one more entry.
 use Rattle.std.proofs.Common.{◌≡◌, inl, inr, ⊎_elim, ℕ, ◌+◌, ◌≤◌, Bool, true, false, ◌&&◌, List, [], ◌∷◌, ◌++◌, length, cond, Some, None, refl, sym, ◌∙◌, ap, subst, arith, append_assoc}
 use Rattle.std.proofs.lemmas.Bool.{true≢false}
 use Rattle.std.proofs.lemmas.List.{append-nil}
@@ -38,7 +38,7 @@ sound_test : (b last rest sound : Bool) → last ≡ false → cond b last rest 
 sound_test true last rest sound more legal later = absurd (true≢false (sym legal ∙ more))
 sound_test false last rest sound more legal later = later legal
 
--- where one entry more is legal, no append has failed
+-- If one more entry is legal, no append has failed.
 pub sound-push : (w : ℕ) (s : State) (h : List Entry) (e : Entry) → IsLegal w s (h ++ e ∷ []) → has_failed h ≡ false
 sound-push w s [] e legal = refl
 sound-push w s (f ∷ h) e legal =
@@ -46,7 +46,7 @@ sound-push w s (f ∷ h) e legal =
     (second_so (is_possible w s f && is_free s f) (cond (is_fail f) (is_empty (h ++ e ∷ [])) (is_legal_history w (step w s f) (h ++ e ∷ []))) legal)
     (sound-push w (step w s f) h e)
 
--- an entry with a cell is no failed append
+-- An entry with a cell is no failed append.
 lost_none : (world : World) (e : Entry) (cell : Cell) → cells_of world (e ∷ []) ≡ cell ∷ [] → failed_cells (e ∷ []) ≡ []
 lost_none world (Fail number lost) cell one = absurd (cc one)
 lost_none world (Call session row op) cell one = refl
@@ -54,7 +54,7 @@ lost_none world (Begin number name) cell one = refl
 lost_none world (Install number) cell one = refl
 lost_none world (Abandon number) cell one = refl
 
--- a log's bytes name the newest version, and so does what an append leaves
+-- A log's bytes name the newest version, and so does what an append leaves.
 newest-either : (w : ℕ) (cells : List Cell) (cell : Cell) (c : List ℕ) → HoldsEither w cells cell c → IsNewest c
 newest-either w cells cell c (inl alone) = index_version newest w cells c alone
 newest-either w cells cell c (inr both) = index_version newest w (cells ++ cell ∷ []) c both
@@ -70,7 +70,7 @@ module _ (w : ℕ) (s : State) (h : List Entry) (e : Entry) (cell : Cell) (next 
   none_lost : failed_cells h ≡ []
   none_lost = failed_cells-none h sound
 
-  -- the history's cells, and this one
+  -- The history's cells, and this one.
   pub cells_with : cells_of s.world (h ++ e ∷ []) ≡ cells_of s.world h ++ cell ∷ []
   cells_with = cells_of-append s.world h (e ∷ []) ∙ ap (λ l. cells_of s.world h ++ l) next.cells
 
@@ -120,7 +120,7 @@ module _ (w : ℕ) (s : State) (h : List Entry) (e : Entry) (cell : Cell) (next 
             newest = λ here. newest-later w (first ++ cells_of s.world h) cell start.clock d0 d1 kept.later any_moment (kept.newest here);
           }
 
--- an entry without a cell leaves all as it was
+-- An entry without a cell changes nothing that the log keeps.
 pub kept-quiet : {D : Type 0} (drive : D → Drive) (w : ℕ) (s : State) (h : List Entry) (e : Entry) (log : KeptView D) → IsLegal w s (h ++ e ∷ [])
     → cells_of (world_after s.world h) (e ∷ []) ≡ []
     → is_fail e ≡ false → Keeps drive w s h log → Keeps drive w s (h ++ e ∷ []) log

@@ -1,4 +1,4 @@
--- What an append makes of each history that a log keeps.
+-- What an append does to each history that a log keeps.
 use Rattle.std.proofs.Common.{◌≡◌, ◌⊎◌, inl, inr, ⊎_elim, ℕ, List, [], ◌∷◌, ◌++◌, length, Option, Some, None, refl, sym, ◌∙◌, ap, subst, arith, append_assoc, length-append}
 use Rattle.cell_format.specs.declared.cell.Cell.{Cell}
 use Rattle.cell_format.specs.Spelling.{newest}
@@ -31,7 +31,7 @@ module _ {D : Type 0} (drive : D → Drive) (cell : Cell) (old new : KeptView D)
     during : LeavesOnly (drive old.disk) (drive new.disk) (HoldsEither w (first ++ cells_of s.world h) cell)
     during = any_moment w (first ++ cells_of s.world h) log_of
 
-  -- another history is kept since the same opening
+  -- Another history is kept since the same opening.
   since-same : (w : ℕ) (s : State) (g : List Entry) (failed : Option ℕ) → new.failed ≡ failed
       → ((first : List Cell) → StartsWith w first (drive old.start) → KeepsSince w first s g (drive old.start) (drive new.disk) failed)
       → (first : List Cell) → StartsWith w first (drive new.start) → KeepsSince w first s g (drive new.start) (drive new.disk) new.failed
@@ -40,7 +40,7 @@ module _ {D : Type 0} (drive : D → Drive) (cell : Cell) (old new : KeptView D)
       (subst (λ (d : D). KeepsSince w first s g (drive d) (drive new.disk) failed) (sym opened.start)
       (since first (subst (λ (d : D). StartsWith w first (drive d)) opened.start starts)))
 
-  -- at each moment a crash leaves the cells that stood at the start, or these and the new one
+  -- At each moment a crash leaves the cells from the start, with the new one or without it.
   pub leaves-either : (w : ℕ) (s : State) (h : List Entry) (e : Entry) (first : List Cell) → IsNext w s h e cell → Keeps drive w s h old
       → StartsWith w first (drive old.start) → LeavesOnly (drive old.disk) (drive new.disk) (RecoversWith w first s.world h e)
   leaves-either w s h e first next kept starts =
@@ -50,7 +50,7 @@ module _ {D : Type 0} (drive : D → Drive) (cell : Cell) (old new : KeptView D)
       (either-kept w s h e cell next first (drive old.start) (drive old.disk) (drive new.disk) starts.recovers.legal
       (still w s h kept first starts) (during w s h kept first starts))
 
-  -- where the new cell is in no image, it leaves the cells that stood
+  -- If no image has the new cell, a crash leaves the cells from the start.
   pub leaves-alone : (w : ℕ) (s : State) (h : List Entry) (e : Entry) (first : List Cell) → IsNext w s h e cell → Keeps drive w s h old
       → StartsWith w first (drive old.start) → ((cells : List Cell) → IsLog w cells (drive old.disk) → LeavesOnly (drive old.disk) (drive new.disk) (HoldsCells newest w cells))
       → LeavesOnly (drive old.disk) (drive new.disk) (Recovers w (first ++ cells_of s.world h))
@@ -63,7 +63,7 @@ module _ {D : Type 0} (drive : D → Drive) (cell : Cell) (old new : KeptView D)
         before = λ t c le left. ⊎_elim (λ was. inl was) (λ holds. inr (record { version = newest; known = inr refl; holds = holds; legal = legal })) (only.before t c le left);
       }
 
-  -- the history with any entry that the cell is of is kept
+  -- The history with any entry that has this cell is kept.
   pub keeps-next : Adds cell old.cells new.cells new.failed (drive old.disk) (drive new.disk)
       → (w : ℕ) (s : State) (h : List Entry) (e : Entry) → IsNext w s h e cell → Keeps drive w s h old → Keeps drive w s (h ++ e ∷ []) new
   keeps-next adds w s h e next kept = record {
@@ -77,11 +77,11 @@ module _ {D : Type 0} (drive : D → Drive) (cell : Cell) (old new : KeptView D)
         (adds.log w (first ++ cells_of s.world h) (kept.text first bytes (sym (ap (λ (d : D). (drive d).bytes) opened.start) ∙ told) recovers sound));
   }
 
-  -- the log is closed at the cell
+  -- The log is closed at the cell.
   pub closed-at : (number : ℕ) → Fails cell number old.cells new.cells new.failed (drive old.disk) (drive new.disk) → new.failed ≡ Some number
   closed-at number fails = fails.kept ∙ ap Some (sym fails.named)
 
-  -- and the history that ends with the failed append is kept
+  -- The history that ends with the failed append is kept.
   pub keeps-failed : (number : ℕ) → Fails cell number old.cells new.cells new.failed (drive old.disk) (drive new.disk)
       → (w : ℕ) (s : State) (h : List Entry) (e : Entry) (lost : Lost) → IsNext w s h e cell → lost_cells lost ≡ cell ∷ []
       → Keeps drive w s h old → Keeps drive w s (h ++ Fail number lost ∷ []) new

@@ -1,4 +1,4 @@
--- What an append of many cells makes of each history that a journal keeps.
+-- What an append of many cells does to each history that a journal keeps.
 use Rattle.std.proofs.Common.{◌≡◌, ℕ, ◌+◌, ◌≤◌, true, false, List, [], ◌∷◌, ◌++◌, length, Option, Some, None, is_some, refl, sym, ◌∙◌, ap, subst, arith}
 use Rattle.std.proofs.lemmas.Bool.{true≢false}
 use Rattle.cell_format.specs.declared.cell.Cell.{Cell}
@@ -19,7 +19,7 @@ use Rattle.kept_log.specs.Steps.{IsSince}
 use Rattle.kept_log.specs.Journal.{KeepsIn, AddedAll, AllMissed, LeavesNextAll}
 use Rattle.kept_log.proofs.Batches.{leaves-all, leaves-all-now, leaves-none, keeps-all}
 
--- a history without a failed append names the cell that what stands behind it names
+-- If the first part names no cell, the history names the cell that the second part names.
 failed_behind : (h es : List Entry) → failed_cell h ≡ None → failed_cell (h ++ es) ≡ failed_cell es
 failed_behind [] es none = refl
 failed_behind (Fail number lost ∷ h) es none = absurd (cc none)
@@ -28,16 +28,16 @@ failed_behind (Begin number name ∷ h) es none = failed_behind h es none
 failed_behind (Install number ∷ h) es none = failed_behind h es none
 failed_behind (Abandon number ∷ h) es none = failed_behind h es none
 
--- where no cell is named, no count need rise
+-- If no cell is named, no fault count need rise.
 unnamed : {A : Type 0} (cell : Option ℕ) → cell ≡ None → is_some cell ≡ true → A
 unnamed None none told = absurd (true≢false (sym told))
 unnamed (Some number) none told = absurd (cc none)
 
--- nor has it a number
+-- If no cell is named, no number is.
 no_number : {A : Type 0} (cell : Option ℕ) (n : ℕ) → cell ≡ None → cell ≡ Some n → A
 no_number cell n none some = absurd (cc (none, some))
 
--- without a log nothing is added, and nothing need be kept
+-- Without a log nothing is added, and nothing need be kept.
 pub all-added-none : {D : Type 0} (drive : D → Drive) (more : List Cell) → AddedAll drive more None None
 all-added-none drive more = record {
   count = omega arith;

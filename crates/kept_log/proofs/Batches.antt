@@ -1,4 +1,4 @@
--- What an append of many cells makes of each history that a log keeps.
+-- What an append of many cells does to each history that a log keeps.
 use Rattle.std.proofs.Common.{◌≡◌, ◌⊎◌, inl, inr, ⊎_elim, ℕ, ◌≤◌, true, false, List, [], ◌++◌, length, None, refl, sym, ◌∙◌, ap, subst, arith, append_assoc, length-append}
 use Rattle.std.proofs.lemmas.List.{append-nil}
 use Rattle.cell_format.specs.declared.cell.Cell.{Cell}
@@ -25,7 +25,7 @@ use Rattle.kept_log.specs.Steps.{AreNext, IsSince}
 use Rattle.kept_log.specs.Journal.{RecoversWithAll}
 use Rattle.kept_log.proofs.Starting.{leaves-log}
 
--- a log's bytes name the newest version, and so does what an append leaves
+-- A log's bytes name the newest version, and so does what an append leaves.
 newest-all : (w : ℕ) (cells more : List Cell) (c : List ℕ) → HoldsAllOrNone w cells more c → IsNewest c
 newest-all w cells more c (inl alone) = index_version newest w cells c alone
 newest-all w cells more c (inr both) = index_version newest w (cells ++ more) c both
@@ -38,7 +38,7 @@ module _ (w : ℕ) (s : State) (h es : List Entry) (more : List Cell) (sound : h
   none_lost : failed_cells h ≡ []
   none_lost = failed_cells-none h sound
 
-  -- the history's cells, and these
+  -- The history's cells, and these.
   pub cells_with_all : cells_of s.world (h ++ es) ≡ cells_of s.world h ++ more
   cells_with_all = cells_of-append s.world h es ∙ ap (λ l. cells_of s.world h ++ l) next.cells
 
@@ -91,14 +91,14 @@ module _ {D : Type 0} (drive : D → Drive) (more : List Cell) (old new : KeptVi
     same : (first : List Cell) → (first ++ cells_of s.world h) ++ more ≡ first ++ cells_of s.world (h ++ es)
     same first = append_assoc first (cells_of s.world h) more ∙ ap (λ l. first ++ l) (sym (cells_with_all w s h es more unfailed next))
 
-    -- at each moment a crash leaves the cells that stood at the start, or these and all of the new ones
+    -- At each moment a crash leaves the cells from the start, with all of the new ones or without.
     pub leaves-all : (first : List Cell) → StartsWith w first (drive old.start) → LeavesOnly (drive old.disk) (drive new.disk) (RecoversWithAll w first s.world h es)
     leaves-all first starts =
         subst (λ (l : List Cell). LeavesOnly (drive old.disk) (drive new.disk) (λ c. Recovers w (first ++ cells_of s.world h) c ⊎ Recovers w l c)) (same first)
         (all-kept w s h es more unfailed next first (drive old.start) (drive old.disk) (drive new.disk) starts.recovers.legal
         (still w s h kept first starts) (during w s h kept first starts))
 
-    -- and so it does now, where it does so of the cells of any log
+    -- A crash now does so too, if it does for the cells of any log.
     pub leaves-all-now : ((cells : List Cell) → IsLog w cells (drive old.disk) → LeavesNow (drive new.disk) (HoldsAllOrNone w cells more))
         → (first : List Cell) → StartsWith w first (drive old.start) → LeavesNow (drive new.disk) (RecoversWithAll w first s.world h es)
     leaves-all-now now first starts c left =
@@ -106,7 +106,7 @@ module _ {D : Type 0} (drive : D → Drive) (more : List Cell) (old new : KeptVi
         (recovers-all w s h es more unfailed next first (drive old.start) (drive old.disk) (drive new.disk) starts.recovers.legal
         (still w s h kept first starts) (during w s h kept first starts) c (now (first ++ cells_of s.world h) (log_of w s h kept first starts) c left))
 
-    -- where the new cells are in no image, it leaves the cells that stood
+    -- If no image has a new cell, a crash leaves the cells from the start.
     pub leaves-none : ((cells : List Cell) → IsLog w cells (drive old.disk) → LeavesOnly (drive old.disk) (drive new.disk) (HoldsCells newest w cells))
         → (first : List Cell) → StartsWith w first (drive old.start) → LeavesOnly (drive old.disk) (drive new.disk) (Recovers w (first ++ cells_of s.world h))
     leaves-none alone first starts =
@@ -118,7 +118,7 @@ module _ {D : Type 0} (drive : D → Drive) (more : List Cell) (old new : KeptVi
           before = λ t c le left. ⊎_elim (λ was. inl was) (λ holds. inr (record { version = newest; known = inr refl; holds = holds; legal = legal })) (only.before t c le left);
         }
 
-    -- the history with all entries that the cells are of is kept
+    -- The history with all entries that have these cells is kept.
     pub keeps-all : AddsAll more old.cells new.cells new.failed (drive old.disk) (drive new.disk) → Keeps drive w s (h ++ es) new
     keeps-all adds = record {
       count = omega (arith, adds.count, kept.count, opened.first, ap length (cells_with_all w s h es more unfailed next), length-append (cells_of s.world h) more);

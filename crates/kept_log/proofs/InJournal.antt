@@ -1,4 +1,4 @@
--- What an append makes of each history that a journal keeps, and the cell that a history's failed append names.
+-- What an append does to each history that a journal keeps, and the cell that a history's failed append names.
 use Rattle.std.proofs.Common.{◌≡◌, ◌⊎◌, inl, inr, ℕ, ◌<◌, ◌≤◌, true, false, List, [], ◌∷◌, ◌++◌, Option, Some, None, is_some, refl, sym, ◌∙◌, ap, subst, arith, cond}
 use Rattle.std.proofs.lemmas.Bool.{true≢false}
 use Rattle.std.proofs.lemmas.List.{append-nil}
@@ -32,15 +32,15 @@ use Rattle.kept_log.proofs.Starting.{kept-opened}
 use Rattle.kept_log.proofs.Adding.{sound-push, kept-quiet}
 use Rattle.kept_log.proofs.Appending.{leaves-either, leaves-alone, keeps-next, closed-at, keeps-failed}
 
--- where no cell is named, none was lost
+-- If no cell is named, none was lost.
 pub failed_cells-none : (h : List Entry) → failed_cell h ≡ None → failed_cells h ≡ []
 failed_cells-none h none = failed_cells-sound h (has_failed-none h none)
 
--- an entry that is no failed append names no cell
+-- An entry that is no failed append names no cell.
 going_cell : (e : Entry) → is_fail e ≡ false → failed_cell (e ∷ []) ≡ None
 going_cell e going = failed_cell-none (e ∷ []) (ap (λ b. cond b true false) going)
 
--- nor does one that has a cell
+-- An entry that has a cell names none either.
 with_cell : (world : World) (e : Entry) (cell : Cell) → cells_of world (e ∷ []) ≡ cell ∷ [] → failed_cell (e ∷ []) ≡ None
 with_cell world (Fail number lost) cell one = absurd (cc one)
 with_cell world (Call session row op) cell one = refl
@@ -48,20 +48,20 @@ with_cell world (Begin number name) cell one = refl
 with_cell world (Install number) cell one = refl
 with_cell world (Abandon number) cell one = refl
 
--- where no cell is named, no count need rise
+-- If no cell is named, no fault count need rise.
 unnamed : {A : Type 0} (cell : Option ℕ) → cell ≡ None → is_some cell ≡ true → A
 unnamed None none told = absurd (true≢false (sym told))
 unnamed (Some number) none told = absurd (cc none)
 
--- nor has it a number
+-- If no cell is named, no number is.
 no_number : {A : Type 0} (cell : Option ℕ) (n : ℕ) → cell ≡ None → cell ≡ Some n → A
 no_number cell n none some = absurd (cc (none, some))
 
--- a count that rose since later has risen
+-- A count that rose since later has risen.
 rose_since : (a b c : ℕ) → a ≤ b → Rose b c → Rose a c
 rose_since a b c before rose = omega (arith, before, rose)
 
--- an entry without a cell leaves all as it was
+-- An entry without a cell changes nothing that the journal keeps.
 pub in-quiet : {D : Type 0} (drive : D → Drive) (w : ℕ) (s : State) (h : List Entry) (e : Entry) (log : Option (KeptView D)) → IsLegal w s (h ++ e ∷ [])
     → cells_of (world_after s.world h) (e ∷ []) ≡ []
     → is_fail e ≡ false → KeepsIn drive w s h log → KeepsIn drive w s (h ++ e ∷ []) log
@@ -84,14 +84,14 @@ in-quiet drive w s h e (Some log) legal none going kept =
       from = kept.from;
     }
 
--- a call that changes nothing has no cell
+-- A call that changes nothing has no cell.
 pub in-call : {D : Type 0} (drive : D → Drive) (w : ℕ) (s : State) (h : List Entry) (session row : ℕ) (op : Op) (log : Option (KeptView D))
     → IsLegal w s (h ++ Call session row op ∷ [])
     → is_change (answer_of (world_after s.world h) op) ≡ false → KeepsIn drive w s h log → KeepsIn drive w s (h ++ Call session row op ∷ []) log
 in-call drive w s h session row op log legal none =
     in-quiet drive w s h (Call session row op) log legal (call-no_cells (world_after s.world h) session row op none) refl
 
--- a log that was just opened keeps the empty history
+-- A log that was just opened keeps the empty history.
 pub in-opened : {D : Type 0} (drive : D → Drive) (w : ℕ) (s : State) (log : KeptView D) → log.cells ≡ log.first → IsOpened w s (drive log.start) (drive log.disk)
     → log.cells ≤ most_cells → log.failed ≡ None → KeepsIn drive w s [] (Some log)
 in-opened drive w s log first opened most sound = record {
@@ -111,7 +111,7 @@ in-opened drive w s log first opened most sound = record {
       record { cells = cells; recovers = recovers; state = opened.state bytes cells told recovers };
 }
 
--- without a log nothing is added, and nothing need be kept
+-- Without a log nothing is added, and nothing need be kept.
 pub added-none : {D : Type 0} (drive : D → Drive) (cell : Cell) → Added drive cell None None
 added-none drive cell = record {
   count = omega arith;
@@ -198,7 +198,7 @@ module _ {D : Type 0} (drive : D → Drive) (cell : Cell) (old new : KeptView D)
       last_named : (n number : ℕ) → Some n ≡ Some number → n ≡ number
       last_named n number same = cc same
 
--- where nothing is written, a crash leaves the cells that stand there
+-- If nothing is written, a crash leaves the cells that the file has.
 pub leaves-quiet : {D : Type 0} (drive : D → Drive) (w : ℕ) (s : State) (h : List Entry) (e : Entry) (log : Option (KeptView D)) → ((d : D) → KeepsLaws (drive d))
     → KeepsIn drive w s h log → failed_cell h ≡ None → LeavesEither drive w s h e log log
 leaves-quiet drive w s h e None laws kept none = tt

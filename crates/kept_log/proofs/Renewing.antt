@@ -1,4 +1,4 @@
--- A log that is opened where it stands keeps the empty history.
+-- A log that counts as opened in its present state keeps the empty history.
 use Rattle.std.proofs.Common.{◌≡◌, inl, inr, ℕ, true, false, List, [], ◌++◌, Option, Some, None, is_some, refl, sym, ◌∙◌, ap, subst, arith}
 use Rattle.std.specs.Option.{option_map}
 use Rattle.std.proofs.lemmas.Bool.{true≢false}
@@ -19,19 +19,19 @@ use Rattle.kept_log.specs.Kept.{StartsWith, RecoversTo, KeepsSince, renewed_stat
 use Rattle.kept_log.specs.Journal.{KeepsLog, KeepsIn, failed_in}
 use Rattle.kept_log.proofs.Starting.{leaves-log}
 
--- what is known after is known before
+-- Bytes that are known after were known before.
 known : (before after : Option (List ℕ)) (bytes : List ℕ) → is_some after ≡ is_some before → after ≡ Some bytes → (was : List ℕ) × (before ≡ Some was)
 known None after bytes same told = absurd (true≢false (sym (ap is_some told) ∙ same))
 known (Some was) after bytes same told = (was, refl)
 
--- no cell is named in an empty history
+-- An empty history names no cell.
 no_number : (n : ℕ) → None ≡ Some n → ⊥
 no_number n same = cc same
 
 no_test : false ≡ true → ⊥
 no_test same = true≢false (sym same)
 
--- a log of legal cells that left a state, with no split open
+-- A log of legal cells that lead to a state, once open splits are given up.
 record StandsAt (w : ℕ) (s : State) (drive : Drive) : Type 0 where
   cells : List Cell
   is_log : IsLog w cells drive
@@ -43,7 +43,7 @@ module _ {D : Type 0} (drive : D → Drive) (w : ℕ) (s : State) (h : List Entr
   abbrev now : Drive
   now = drive log.disk
 
-  -- behind the cells that stood first are those of the history
+  -- The history's cells follow the first ones.
   stands-behind : (start : List ℕ) → (drive log.start).bytes ≡ Some start → RecoversTo w s start → StandsAt w (renewed_state w s h) now
   stands-behind start told from =
       let legal_first = subst (λ (t : State). is_legal_history w t h ≡ true) (sym from.state) legal in
@@ -67,7 +67,7 @@ module _ {D : Type 0} (drive : D → Drive) (w : ℕ) (s : State) (h : List Entr
         state = at.state;
       }
 
-  -- whatever cells the bytes recover to, these are they
+  -- These are the only cells that the bytes recover to.
   same-cells : (first : List Cell) (bytes : List ℕ) (told : now.bytes ≡ Some bytes) → Recovers w first bytes → first ≡ (stands bytes told).cells
   same-cells first bytes told recovers =
       let at = stands bytes told in
@@ -107,7 +107,7 @@ module _ {D : Type 0} (drive : D → Drive) (w : ℕ) (s : State) (h : List Entr
     from = recovers-now;
   }
 
--- and so does a journal
+-- A journal keeps the empty history too.
 pub in-renewed : {D : Type 0} (drive : D → Drive) (w : ℕ) (s : State) (h : List Entry) (log : Option (KeptView D)) → ((d : D) → KeepsLaws (drive d)) → failed_in log ≡ None → IsLegal w s h
     → KeepsIn drive w s h log → KeepsIn drive w (renewed_state w s h) [] (option_map renewed_log log)
 in-renewed drive w s h None laws sound legal kept = refl

@@ -16,7 +16,7 @@ use Rattle.recovery.proofs.CallLemmas.{well-opened}
 use Rattle.kept_log.specs.KeptView.{KeptView}
 use Rattle.kept_log.specs.Kept.{StartsWith, KeepsSince, Keeps, IsOpened, found_state}
 
--- where nothing is pending, a crash leaves what the bytes recover to
+-- If nothing is pending, a crash leaves what the bytes recover to.
 pub starts-settled : (w : ℕ) (first : List Cell) (drive : Drive) (bytes : List ℕ) → IsSynced drive → drive.bytes ≡ Some bytes
     → Recovers w first bytes → StartsWith w first drive
 starts-settled w first drive bytes settled told recovers = record {
@@ -26,11 +26,11 @@ starts-settled w first drive bytes settled told recovers = record {
   images = λ c left. subst (Recovers w first) (sym (settled bytes told c left)) recovers;
 }
 
--- a crash leaves a log's cells
+-- A crash leaves a log's cells.
 pub leaves-log : (w : ℕ) (cells : List Cell) (drive : Drive) → IsLog w cells drive → LeavesNow drive (HoldsCells newest w cells)
 leaves-log w cells drive log c left = record { front = log.bytes; rest = []; parts = log.durable c left ∙ sym (append-nil log.bytes); text = log.text }
 
--- the file is the text of the cells that its bytes recovered to
+-- The file is the text of the cells that its bytes recovered to.
 text-opened : (w : ℕ) (s : State) (first : List Cell) (bytes : List ℕ) (start now : Drive) → IsOpened w s start now → start.bytes ≡ Some bytes → Recovers w first bytes
     → IsLog w first now
 text-opened w s first bytes start now opened told recovers =
@@ -64,7 +64,7 @@ kept-opened drive w s log same opened = record {
       subst (λ (l : List Cell). IsLog w l (drive log.disk)) (sym (append-nil first)) (text-opened w s first bytes (drive log.start) (drive log.disk) opened told recovers);
 }
 
--- what the opening of a log answers says that it was opened at the state that was found
+-- The result of opening a log says that it was opened in the state that was found.
 pub opened-found : (w most : ℕ) (start now : Drive) (seen : Seen) → IsFound newest w most start seen → IsReady w seen start now → KeepsCells w start now
     → IsOpened w (found_state seen) start now
 opened-found w most start now seen found ready any_moment = record {

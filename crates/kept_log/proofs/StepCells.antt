@@ -1,4 +1,4 @@
--- The cells of one entry behind a history.
+-- The cells of one entry after a history.
 use Rattle.std.proofs.Common.{◌≡◌, ℕ, false, List, [], ◌∷◌, ◌++◌, cond, ◌∙◌, ap}
 use Rattle.std.proofs.lemmas.List.{append-nil}
 use Rattle.plain_list.specs.declared.ops.Op.{Op}
@@ -10,11 +10,11 @@ use Rattle.plain_list.specs.Answer.{answer_of, is_change}
 use Rattle.log_state.specs.Changes.{cells_of, change_cells}
 use Rattle.log_state.proofs.PlacedChanges.{cells_of-append}
 
--- another has none
+-- A call that changes nothing has none.
 pub call-no_cells : (world : World) (session row : ℕ) (op : Op) → is_change (answer_of world op) ≡ false
     → cells_of world (Call session row op ∷ []) ≡ []
 call-no_cells world session row op change = ap (λ b. cond b (change_cells op) [] ++ []) change
 
--- a failed append has none
+-- A failed append has none.
 pub cells-fail : (world : World) (h : List Entry) (number : ℕ) (lost : Lost) → cells_of world (h ++ Fail number lost ∷ []) ≡ cells_of world h
 cells-fail world h number lost = cells_of-append world h (Fail number lost ∷ []) ∙ append-nil (cells_of world h)

@@ -1,4 +1,4 @@
--- What comes next in what a log has kept.
+-- Which entry may come next in what a log has kept.
 use Rattle.std.specs.Prelude.{◌≡◌, ℕ, List, [], ◌∷◌, ◌++◌, None}
 use Rattle.cell_format.specs.declared.cell.Cell.{Cell}
 use Rattle.plain_list.specs.declared.entries.Entry.{Entry}
@@ -7,18 +7,18 @@ use Rattle.plain_list.specs.State.{State, IsLegal}
 use Rattle.log_state.specs.Changes.{cells_of}
 use Rattle.kept_log.specs.KeptView.{KeptView}
 
--- the entry may come next in the history, and the cell is its
+-- The entry may come next in the history, and this is its cell.
 pub record IsNext (w : ℕ) (s : State) (h : List Entry) (e : Entry) (cell : Cell) : Type 0 where
   pub legal : IsLegal w s (h ++ e ∷ [])
   pub cells : cells_of (world_after s.world h) (e ∷ []) ≡ cell ∷ []
 
--- the entries may come next in the history, in this order, no append failed among them, and the cells are theirs
+-- The entries may come next in the history, in this order, and these are their cells. No failed append is among them.
 pub record AreNext (w : ℕ) (s : State) (h es : List Entry) (more : List Cell) : Type 0 where
   pub legal : IsLegal w s (h ++ es)
   pub sound : failed_cell es ≡ None
   pub cells : cells_of (world_after s.world h) es ≡ more
 
--- the same opening
+-- Both come from the same opening.
 pub record IsSince {D : Type 0} (old new : KeptView D) : Type 0 where
   pub start : new.start ≡ old.start
   pub first : new.first ≡ old.first

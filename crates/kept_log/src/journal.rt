@@ -1,4 +1,4 @@
-//! The log of a store that may have none, and what it has kept since it was opened.
+//! The log of a store, and what it has kept since it was opened. A store may have no log.
 ghost use Rattle.std.specs.Prelude.{◌≡◌, ◌≤◌, ◌<◌, ◌+◌, ◌==◌, ℕ, List, [], Some, None, is_some, length, OnOk, IfErr};
 ghost use Rattle.std.specs.Option.{option_map};
 ghost use Rattle.plain_list.specs.declared.entries.Entry.{Entry};
@@ -16,7 +16,7 @@ use std::alloc::Global;
 use std::marker::Model;
 use std::snapshot::Snapshot;
 
-/// The log of a store that may have none, and then keeps nothing.
+/// The log of a store, if there is one. Without a log a journal keeps nothing.
 #[derive(Drop)]
 pub struct Journal<D: LogDisk> {
     log: Option<Kept<D>>,
@@ -35,7 +35,7 @@ impl<D: LogDisk> Model for Journal<D> {
 #[derive(Drop)]
 struct Kept<D: LogDisk> {
     log: SplitLog<D>,
-    // The drive at the opening, and how many cells there were then: for contracts alone.
+    // The drive at the opening, and the number of cells then. They are for contracts alone.
     start: Snapshot<D>,
     first: Snapshot<u64>,
 }
@@ -48,7 +48,7 @@ impl<D: LogDisk> Model for Kept<D> {
     ghost view = { λ k. record { disk = k.log.disk; cells = k.log.cells; failed = k.log.failed; start = k.start.value; first = k.first.value } };
 }
 
-/// A device call failed while this cell was added.
+/// A device call failed while this cell was added. A crash leaves the cell or doesn't.
 #[derive(Clone, Copy, Debug, PartialEq, Eq)]
 pub struct AppendLost {
     pub cell: u64,
@@ -57,7 +57,7 @@ pub struct AppendLost {
 /// Why a batch of cells was not added.
 #[derive(Clone, Copy, Debug, PartialEq, Eq)]
 pub enum AppendAllLost {
-    /// A device call failed. A crash leaves all cells of the batch or none, and this is the first of them.
+    /// A device call failed. A crash leaves all cells of the batch or none. `cell` is the number of the first one.
     Disk { cell: u64 },
     /// There was no memory for the text of the cells. No device call was made.
     Memory,
@@ -71,7 +71,7 @@ impl<D: LogDisk> Journal<D> {
         Journal { log: None }
     }
 
-    /// A journal over a log as it was opened on this drive.
+    /// A journal over a log that was just opened. `start` is the drive before the opening.
     pub fn opened(log: SplitLog<D>, start: Snapshot<D>) -> Journal<D>
         ensures value { result
             ≡ Some (record { disk = log.disk; cells = log.cells; failed = log.failed; start = start.value; first = log.cells }) }
@@ -91,7 +91,7 @@ impl<D: LogDisk> Journal<D> {
         self.log.is_some()
     }
 
-    /// How many cells there are: none without a log.
+    /// The number of cells, or 0 without a log.
     pub fn cells(&self) -> u64
         ensures cells { result ≡ cells_in self.now }
         ensures most { cells_in self.now ≤ most_cells }
@@ -102,7 +102,7 @@ impl<D: LogDisk> Journal<D> {
         }
     }
 
-    /// The cell whose append failed: from then on the log takes no more.
+    /// The number of the cell whose append failed. After that append the log takes no more cells.
     pub fn closed(&self) -> Option<u64>
         ensures { result ≡ failed_in self.now }
     {
@@ -112,14 +112,14 @@ impl<D: LogDisk> Journal<D> {
         }
     }
 
-    /// Whether there is a log with all the cells that it may have.
+    /// Whether there is a log that has all the cells it may have (`split_log::MOST_CELLS`).
     pub fn is_full(&self) -> bool
         ensures { result ≡ (cells_in self.now == most_cells) }
     {
         self.cells() == MOST_CELLS
     }
 
-    /// Adds a cell, where there is a log. After a disk fault the log takes no more.
+    /// Adds a cell, if there is a log. After a disk fault the log takes no more cells.
     pub fn append(&mut self, cell: &Cell) -> Result<(), AppendLost>
         requires open { failed_in self.old ≡ None }
         requires room { cells_in self.old < most_cells }
@@ -135,7 +135,8 @@ impl<D: LogDisk> Journal<D> {
         kept.append(cell)
     }
 
-    /// Adds a batch of cells, if there is a log. A crash leaves all of them or none. After a disk fault the log takes no more.
+    /// Adds a batch of cells, if there is a log. A crash leaves all of them or none. After a disk fault the log takes
+    /// no more cells.
     pub fn append_all(&mut self, alloc: Global, cells: &[Cell]) -> Result<(), AppendAllLost>
         requires open { failed_in self.old ≡ None }
         requires room { cells_in self.old + length cells.now ≤ most_cells }
@@ -151,7 +152,8 @@ impl<D: LogDisk> Journal<D> {
         kept.append_all(alloc, cells)
     }
 
-    /// Goes on from where the log stands, as if it was opened there: what it has kept so far is what stood first. No device call is made.
+    /// Continues from the log's present state, as if the log were opened in it. What the log has kept so far becomes
+    /// what was there first. No device call is made.
     pub fn renew(&mut self)
         requires open { failed_in self.old ≡ None }
 
@@ -164,7 +166,7 @@ impl<D: LogDisk> Journal<D> {
         }
     }
 
-    /// The log as it stands.
+    /// Returns the log as it is now, if there is one.
     pub fn into_log(self) -> Option<SplitLog<D>>
         ensures { result ≡ log_in self }
     {
@@ -174,7 +176,7 @@ impl<D: LogDisk> Journal<D> {
         }
     }
 
-    /// The drive, whatever stands on it.
+    /// Returns the drive, whatever its file holds, if there is a log.
     pub fn give_back(self) -> Option<D>
         ensures { result ≡ disk_in self }
     {

@@ -1,14 +1,18 @@
-//! The log of a store that may have none, and what it has kept since it was opened.
+//! The log of a store, and what it has kept since it was opened. A store may have no log.
 //!
-//! Contracts see a `Journal` as an option of its log: the drive, the cells and the append that failed, beside the drive as it was at the
-//! opening and the number of cells then. `append` goes on with any history that it keeps (`KeepsIn`): after `Ok` it keeps that history with
-//! the entry that the cell is of, and after a disk fault the history that ends with the failed append, which names the number of cells.
-//! At each moment of an append a crash leaves the cells that stood at its start, or these and the new one. `append_all` adds a batch, of which
-//! a crash leaves all cells or none. `renew` goes on from where the log stands, as if it was opened there: it keeps the empty history from the
-//! state that the one before left. With no log nothing is kept, and no append fails. It is asked for room before an append, so that a cell is
-//! added unless the drive fails.
+//! Contracts see a `Journal` as an option of its log: the drive, the number of cells, the append that failed, and the
+//! drive and the number of cells at the opening.
+//! - `append` works with any history that the journal keeps (`KeepsIn`). After `Ok` the journal keeps that history with
+//!   the entry of the cell. After a disk fault it keeps the history that ends with the failed append, which names the
+//!   number of cells.
+//! - At each moment of an append a crash leaves the cells from its start, with the new one or without it.
+//! - `append_all` adds a batch. A crash leaves all cells of the batch or none.
+//! - `renew` continues as if the log were opened in its present state. The journal then keeps the empty history from
+//!   the state that the old one led to.
+//! - Without a log nothing is kept, and no append fails.
+//! - An append requires room in the log, so a cell is added unless the drive fails. `append_all` may also lack memory.
 //!
-//! Not here: which entries there are and when they are made, and how a log is opened (`recovery`).
+//! Not here: which entries there are and when they happen, and how a log is opened (`recovery`).
 #![tactic(auto)]
 
 mod journal;

@@ -1,4 +1,4 @@
-//! A journal may be sent between threads where its drive may.
+//! A journal may be sent to another thread if its drive may.
 use crate::journal::Journal;
 use disk_trait::LogDisk;
 

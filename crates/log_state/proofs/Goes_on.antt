@@ -1,4 +1,4 @@
--- The cells of a legal history are legal after the cells that stood first, whatever splits these left open.
+-- The cells of a legal history are legal after the first cells, whatever splits these left open.
 use Rattle.std.proofs.Common.{◌≡◌, ℕ, ◌+◌, ◌<◌, ◌≤◌, Bool, true, false, not, ◌&&◌, ◌⊎◌, inl, inr, ◌==◌, List, [], ◌∷◌, ◌++◌, length, Option, Some, None, is_some, refl, sym, ◌∙◌, ap, subst, arith, cond}
 use mathlib.Core.Bool.{true≢false}
 use Rattle.std.specs.Prelude.{nat_lt, nat_le}
@@ -21,11 +21,12 @@ use Rattle.plain_list.specs.State.{State, OpenSplit, step, state_after, is_possi
 use Rattle.log_state.specs.Recovers.{entry_of, is_possible_cell, cells_after, is_legal_cells}
 use Rattle.log_state.specs.Changes.{cells_of, change_cells}
 
--- whether a split was begun after this many
+-- Whether a split has a number above `b`.
 abbrev pub is_later : ℕ → OpenSplit → Bool
 is_later b s = nat_lt b s.number
 
--- the state of a history, beside that of the cells: the same, but that splits may be open that were begun before
+-- The states of a history and of the cells are equal, except that the cells' state may have more open splits. Those
+-- were begun before.
 pub record Follows (b : ℕ) (h c : State) : Type 0 where
   pub world : h.world ≡ c.world
   pub leaves : h.leaves ≡ c.leaves
@@ -56,7 +57,7 @@ kept_or true s rest n name e = elim (chosen (s.number == n) (Some s.name) (split
   | inr other ↦ inr other.1
 ]
 
--- a split that was begun later has a later number
+-- A split that was begun later has a later number.
 later_number : (b n : ℕ) (splits : List OpenSplit) (name : List Bool) → split_name (filter (is_later b) splits) n ≡ Some name → b < n
 later_number b n [] name e = absurd (none-some name e)
 later_number b n (s ∷ splits) name e = elim (kept_or (is_later b s) s (filter (is_later b) splits) n name e) [
@@ -64,7 +65,7 @@ later_number b n (s ∷ splits) name e = elim (kept_or (is_later b s) s (filter 
   | inr other ↦ later_number b n splits name other
 ]
 
--- a split that is open in the history is open in the cells, with the same name
+-- A split that is open in the history is open in the cells, with the same name.
 later_name : (b n : ℕ) (splits : List OpenSplit) (name : List Bool) → split_name (filter (is_later b) splits) n ≡ Some name → split_name splits n ≡ Some name
 later_name b n [] name e = e
 later_name b n (s ∷ splits) name e = elim (kept_or (is_later b s) s (filter (is_later b) splits) n name e) [
@@ -80,14 +81,14 @@ later_name b n (s ∷ splits) name e = elim (kept_or (is_later b s) s (filter (i
   ]
 ]
 
--- a begin of the next number
+-- A begin with the next number.
 begins : (b n : ℕ) (name : List Bool) (splits : List OpenSplit) → b < n
     → filter (is_later b) (without_name name splits ++ record { number = n; name = name } ∷ []) ≡ without_name name (filter (is_later b) splits) ++ record { number = n; name = name } ∷ []
 begins b n name splits lt =
     filter-append (is_later b) (without_name name splits) (record { number = n; name = name } ∷ [])
     ∙ (λ i. filter-and (is_later b) (λ s. not (same_name s.name name)) splits i ++ cond (lt-ltb b n lt i) (record { number = n; name = name } ∷ []) [])
 
--- an install or an abandonment
+-- An install or an abandonment.
 ends : (b n : ℕ) (splits : List OpenSplit) → filter (is_later b) (without_number n splits) ≡ without_number n (filter (is_later b) splits)
 ends b n splits = filter-and (is_later b) (λ s. not (s.number == n)) splits
 
@@ -95,19 +96,19 @@ same_either : {A : Type 0} (b : Bool) (x : A) → cond b x x ≡ x
 same_either true x = refl
 same_either false x = refl
 
--- what is to be shown of cells
+-- The claim about a list of cells.
 abbrev Goes : ℕ → ℕ → State → State → List Cell → Type 0
 Goes w b last c cells = (is_legal_cells w c cells ≡ true) × Follows b last (cells_after w c cells)
 
--- a call that changes nothing
+-- A call that changes nothing.
 keeps : (b : ℕ) (s c : State) (world : World) → world ≡ s.world → Follows b s c → Follows b (record s { world = world }) c
 keeps b s c world same f = record { world = same ∙ f.world; leaves = f.leaves; begun = f.begun; splits = f.splits; before = f.before }
 
--- a call that changes the world
+-- A call that changes the world.
 changes : (w b : ℕ) (s c : State) (op : Op) → Follows b s c → Follows b (step w s (entry.Call 0 0 op)) (step w c (entry.Call 0 0 op))
 changes w b s c op f = record { world = ap (λ l. after_of l op) f.world; leaves = f.leaves; begun = f.begun; splits = f.splits; before = f.before }
 
--- a put, a move or a removal: its cell, if it is a change
+-- A put, a move or a removal. It has a cell if it is a change.
 module _ (w b : ℕ) (s c last : State) (op : Op) (one : Cell) (rest : List Cell) (is_it : entry_of one ≡ entry.Call 0 0 op)
     (possible : is_possible_cell w c one ≡ is_change (answer_of c.world op)) (f : Follows b s c)
     (on : (d : State) → Follows b (step w s (entry.Call 0 0 op)) d → Goes w b last d rest) where
@@ -119,7 +120,7 @@ module _ (w b : ℕ) (s c last : State) (op : Op) (one : Cell) (rest : List Cell
       (both_true (possible ∙ same) (ap (λ d. is_legal_cells w d rest) taken ∙ next.0), subst (λ d. Follows b last (cells_after w d rest)) (sym taken) next.1)
   changing false e = on c (keeps b s c (after_of s.world op) (ap (λ t. cond t (changed s.world op) s.world) e) f)
 
--- a question
+-- A question.
 asking : (w b : ℕ) (s c last : State) (op : Op) (rest : List Cell) → changed s.world op ≡ s.world → Follows b s c
     → ((d : State) → Follows b (step w s (entry.Call 0 0 op)) d → Goes w b last d rest) → (t : Bool) → Goes w b last c (cond t [] [] ++ rest)
 asking w b s c last op rest same f on true = on c (keeps b s c (after_of s.world op) (ap (λ l. cond (is_change (answer_of s.world op)) l s.world) same ∙ same_either _ _) f)
@@ -138,7 +139,7 @@ some_of : {A : Type 0} (o : Option A) → is_some o ≡ true → (x : A) × (o �
 some_of None e = absurd (true≢false (sym e))
 some_of (Some x) e = (x, refl)
 
--- a begin
+-- A begin.
 begun : (w b : ℕ) (s c : State) (number : ℕ) (name : List Bool) → Follows b s c → is_possible w s (entry.Begin number name) ≡ true
     → (is_possible w c (entry.Begin number name) ≡ true) × Follows b (step w s (entry.Begin number name)) (step w c (entry.Begin number name))
 begun w b s c number name f may =
@@ -156,7 +157,7 @@ begun w b s c number name f may =
       },
     )
 
--- the end of an open split
+-- The end of an open split.
 ended : (w b : ℕ) (s c : State) (number : ℕ) → Follows b s c → is_some (split_name s.splits number) ≡ true
     → (is_some (split_name c.splits number) ≡ true) × Follows b (step w s (entry.Install number)) (step w c (entry.Install number)) × Follows b (step w s (entry.Abandon number)) (step w c (entry.Abandon number))
 ended w b s c number f may =

@@ -1,4 +1,4 @@
--- How a log goes on keeping a history while entries are added.
+-- A log keeps its history when entries are added.
 use Rattle.std.proofs.Common.{◌≡◌, inl, inr, ⊎_elim, ℕ, zero, suc, ◌≤◌, List, [], ◌∷◌, ◌++◌, take, Option, Some, None, refl, sym, ◌∙◌, ap, subst, append_assoc}
 use Rattle.std.proofs.lemmas.List.{append-nil}
 use Rattle.cell_format.specs.declared.cell.Cell.{Cell}
@@ -14,7 +14,7 @@ use Rattle.log_state.specs.Changes.{cells_of, failed_cells, IsPrefixRecovered}
 use Rattle.log_state.specs.Keeps.{KeepsHistory, RecoversAllOrNone}
 use Rattle.log_state.proofs.LegalCells.{legal-front}
 
--- a front of a list is a front of a longer one
+-- A prefix of a list is a prefix of a longer one.
 more_taken : {A : Type 0} (xs ys : List A) (m : ℕ) → (k : ℕ) × (take m xs ≡ take k (xs ++ ys))
 more_taken [] ys zero = (0, refl)
 more_taken [] ys (suc m) = (0, refl)
@@ -25,7 +25,7 @@ all_taken : {A : Type 0} (xs ys : List A) → (k : ℕ) × (xs ≡ take k (xs ++
 all_taken [] ys = (0, refl)
 all_taken (x ∷ xs) ys = let (k, e) = all_taken xs ys in (suc k, ap (λ l. x ∷ l) e)
 
--- an image that recovers to a front of the cells of a history does so of a history with more of them
+-- An image that recovers to a prefix of the history's cells does so for a longer history too.
 widened : (w : ℕ) (first : List Cell) (world : World) (h g : List Entry) (more : List Cell) (c : List ℕ)
     → cells_of world g ++ failed_cells g ≡ (cells_of world h ++ failed_cells h) ++ more
     → IsPrefixRecovered w first world h c → IsPrefixRecovered w first world g c
@@ -41,12 +41,12 @@ module _ (w : ℕ) (first : List Cell) (world : World) (h : List Entry) (more : 
   legal_before : IsLegalCells w (first ++ cells_of world h)
   legal_before = legal-front w empty_state (first ++ cells_of world h) more (ap (is_legal_cells w empty_state) (append_assoc first (cells_of world h) more) ∙ legal)
 
-  -- what holds the cells, with the others or without, recovers to them
+  -- Bytes that hold the cells, with the new ones or without, recover to them.
   pub recovers : (c : List ℕ) → HoldsAllOrNone w (first ++ cells_of world h) more c → RecoversAllOrNone w (first ++ cells_of world h) more c
   recovers c (inl holds) = inl (record { version = newest; known = inr refl; holds = holds; legal = legal_before })
   recovers c (inr holds) = inr (record { version = newest; known = inr refl; holds = holds; legal = ap (is_legal_cells w empty_state) (append_assoc first (cells_of world h) more) ∙ legal })
 
-  -- at any moment of the append a crash leaves the cells that stood at its start, or one more
+  -- At any moment of the append a crash leaves the cells from its start, with all of the new ones or without.
   pub either_since : LeavesOnly d0 d1 (RecoversAllOrNone w (first ++ cells_of world h) more)
   either_since = record {
     later = any_moment.later;
@@ -70,7 +70,7 @@ module _ (w : ℕ) (first : List Cell) (world : World) (h : List Entry) (more : 
       | inr now ↦ either_prefix c (recovers c now)
     ]
 
-    -- the cells were added
+    -- The cells were added.
     pub kept_added : cells_of world g ≡ cells_of world h ++ more → LeavesNow d1 (HoldsCells newest w (first ++ (cells_of world h ++ more))) → (failed : Option ℕ)
         → IsLog w ((first ++ cells_of world h) ++ more) d1 → KeepsHistory w first world g t d1 failed
     kept_added cells now failed log = record {
@@ -79,7 +79,7 @@ module _ (w : ℕ) (first : List Cell) (world : World) (h : List Entry) (more : 
       log = λ none. subst (λ l. IsLog w l d1) (append_assoc first (cells_of world h) more ∙ ap (λ l. first ++ l) (sym cells)) log;
     }
 
-    -- their append failed, and the history says so
+    -- Their append failed, and the history records that.
     pub kept_failed : cells_of world g ≡ cells_of world h → (number : ℕ) → LeavesNow d1 (HoldsAllOrNone w (first ++ cells_of world h) more)
         → KeepsHistory w first world g t d1 (Some number)
     kept_failed cells number now = record {
@@ -91,7 +91,7 @@ module _ (w : ℕ) (first : List Cell) (world : World) (h : List Entry) (more : 
       log = λ none. absurd (cc none);
     }
 
--- an entry without a cell leaves all as it was
+-- An entry without a cell changes nothing that the log keeps.
 pub kept_quiet : (w : ℕ) (first : List Cell) (world : World) (h g : List Entry) (t : ℕ) (drive : Drive) (failed : Option ℕ)
     → cells_of world g ≡ cells_of world h → failed_cells g ≡ failed_cells h → KeepsHistory w first world h t drive failed → KeepsHistory w first world g t drive failed
 kept_quiet w first world h g t drive failed cells lost kept = record {

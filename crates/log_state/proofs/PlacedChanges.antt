@@ -27,7 +27,7 @@ failed_cells-none (Install number ∷ h) sound = failed_cells-none h sound
 failed_cells-none (Abandon number ∷ h) sound = failed_cells-none h sound
 failed_cells-none (Fail cell lost ∷ h) sound = absurd (cc sound)
 
--- before a failed append none has failed
+-- If no append of the first part failed, the failed cells are those of the second part.
 pub failed_cells-append : (h g : List Entry) → has_failed h ≡ false → failed_cells (h ++ g) ≡ failed_cells g
 failed_cells-append [] g sound = refl
 failed_cells-append (Call session row op ∷ h) g sound = failed_cells-append h g sound

@@ -12,7 +12,7 @@ use Rattle.plain_list.specs.World.{World}
 use Rattle.plain_list.specs.Answer.{answer_of, after_of, is_change}
 use Rattle.log_state.specs.Recovers.{Recovers}
 
--- the cell of an operation that changes a world
+-- The cells of an operation that changes a world. A question has none.
 abbrev pub change_cells : Op → List Cell
 change_cells (op.Put id at moment) = cell.Put id at moment ∷ []
 change_cells (op.Move id at moment) = cell.Move id at moment ∷ []
@@ -21,7 +21,7 @@ change_cells (op.Find id) = []
 change_cells (op.Within region) = []
 change_cells (op.Near at k) = []
 
--- the cells of a history: those of the changes among its calls, and of its splits
+-- The cells of a history: those of its changes and of the steps of its splits. A failed append has none.
 abbrev pub cells_of : World → List Entry → List Cell
 cells_of world [] = []
 cells_of world (entry.Call session row op ∷ h) = (if is_change (answer_of world op) then change_cells op else []) ++ cells_of (after_of world op) h
@@ -30,14 +30,14 @@ cells_of world (entry.Install number ∷ h) = cell.Install number ∷ cells_of w
 cells_of world (entry.Abandon number ∷ h) = cell.Abandon number ∷ cells_of world h
 cells_of world (entry.Fail number lost ∷ h) = cells_of world h
 
--- the cell of a step whose append failed
+-- The cells of a step whose append failed.
 abbrev pub lost_cells : Lost → List Cell
 lost_cells (lost.Call session row op) = change_cells op
 lost_cells (lost.Begin number name) = cell.Begin number name ∷ []
 lost_cells (lost.Install number) = cell.Install number ∷ []
 lost_cells (lost.Abandon number) = cell.Abandon number ∷ []
 
--- the cells of a history's failed append
+-- The cells of the failed append with which a history ends, if it does.
 abbrev pub failed_cells : List Entry → List Cell
 failed_cells [] = []
 failed_cells (entry.Fail number lost ∷ h) = lost_cells lost
@@ -46,12 +46,12 @@ failed_cells (entry.Begin number name ∷ h) = failed_cells h
 failed_cells (entry.Install number ∷ h) = failed_cells h
 failed_cells (entry.Abandon number ∷ h) = failed_cells h
 
--- an image that recovers to the cells that stood first and some of the history's, in order and none skipped; the cell of a failed
--- append may stand after them
+-- The image recovers to the first cells and then a prefix of the history's cells. The cell of a failed append may
+-- follow the last of them.
 abbrev pub IsPrefixRecovered : ℕ → List Cell → World → List Entry → List ℕ → Type 0
 IsPrefixRecovered w first world h image = (m : ℕ) × Recovers w (first ++ take m (cells_of world h ++ failed_cells h)) image
 
--- an image that recovers to all of them; the cell of a failed append may stand after them
+-- The image recovers to the first cells and then all cells of the history. The cell of a failed append may follow them.
 abbrev pub IsWhollyRecovered : ℕ → List Cell → World → List Entry → List ℕ → Type 0
 IsWhollyRecovered w first world h image =
     Recovers w (first ++ cells_of world h) image ⊎ Recovers w (first ++ (cells_of world h ++ failed_cells h)) image

@@ -1,4 +1,4 @@
--- What an append of many cells writes, and what follows where there is none.
+-- What an append of many cells writes, and what holds if there are no cells.
 use Rattle.std.proofs.Common.{◌≡◌, ◌≢◌, ℕ, ◌*◌, ◌-◌, ◌≤◌, List, [], ◌∷◌, ◌++◌, length, take, drop, Result, Err, refl, sym, ◌∙◌, ap, subst, arith, length-append}
 use Rattle.std.proofs.lemmas.List.{append-nil, take_all, nil_from_length}
 use Rattle.std.specs.List.{flat_map, AllByRecursion}
@@ -15,15 +15,14 @@ use Rattle.split_log.proofs.Cells.{behind_first-text, length-cells}
 use Rattle.split_log.proofs.Commits.{only-none}
 use Rattle.split_log.proofs.Placing.{before_all}
 
--- the text without its first byte
+-- The text without its first byte.
 abbrev pub behind_one : List ℕ → List ℕ
 behind_one text = take (length text - 1) (drop 1 text)
 
--- there is a cell
 pub some-cells : (more : List Cell) → (length more ≡ 0 → ⊥) → more ≢ []
 some-cells more some e = some (ap length e)
 
--- without its first commit byte, the text of cells is what stands behind that byte
+-- The text of cells without its first commit byte is the text after that byte.
 pub behind-text : (more : List Cell) (text : List ℕ) → more ≢ [] → text ≡ flat_map spelling more ++ 0 ∷ [] → behind_one text ≡ behind_first more
 behind-text [] text some is = absurd (some refl)
 behind-text (cell ∷ others) text some is =
@@ -32,7 +31,7 @@ behind-text (cell ∷ others) text some is =
     ∙ ap (λ n. take n (behind_first (cell ∷ others))) less
     ∙ take_all (length (behind_first (cell ∷ others))) (behind_first (cell ∷ others)) (omega arith)
 
--- so many bytes are written
+-- The length of what is written.
 pub length-behind : (more : List Cell) (text : List ℕ) → more ≢ [] → text ≡ flat_map spelling more ++ 0 ∷ [] → length (behind_one text) ≤ 32 * length more
 length-behind [] text some is = absurd (some refl)
 length-behind (cell ∷ others) text some is =
@@ -40,20 +39,19 @@ length-behind (cell ∷ others) text some is =
     let l : length (1 ∷ behind_first (cell ∷ others)) ≡ length (flat_map spelling (cell ∷ others) ++ 0 ∷ []) = ap length (behind_first-text cell others) in
     omega (arith, b, l, length-append (flat_map spelling (cell ∷ others)) (0 ∷ []), length-cells (cell ∷ others))
 
--- they may be written behind the log
+-- The piece may be written after the log.
 pub ready-for : (w : ℕ) (before more : List Cell) (text : List ℕ) (drive : Drive) → IsLog w before drive → AllByRecursion (IsCell newest) more → (length more ≡ 0 → ⊥)
     → text ≡ flat_map spelling more ++ 0 ∷ [] → IsReady w before more (behind_one text) drive
 ready-for w before more text drive log fits some is =
     let any = some-cells more some in
     record { log = log; fits = fits; some = any; piece_is = behind-text more text any is }
 
--- that takes four calls
 pub four-calls : (more : List Cell) (old new : Drive) → (length more ≡ 0 → ⊥) → MadeWell 4 old new → MadeWell (calls_to_add more) old new
 four-calls [] old new some made = absurd (some refl)
 four-calls (cell ∷ others) old new some made = made
 
 module _ (more : List Cell) (none : length more ≡ 0) (drive : Drive) where
-  -- no cell takes none, and leaves the log
+  -- An empty list takes no call and leaves the log unchanged.
   pub no-calls : MadeWell (calls_to_add more) drive drive
   no-calls = subst (λ (l : List Cell). MadeWell (calls_to_add l) drive drive) (sym (nil_from_length more none)) (made-none drive)
 

@@ -21,7 +21,6 @@ length-cells (c ∷ cells) = omega (arith, length-append (spelling c) (flat_map 
 pub length-front_of : (v w : ℕ) (cells : List Cell) → length (front_of v w cells) ≡ 16 + 32 * length cells
 length-front_of v w cells = omega (arith, length-append (header_text v w) (flat_map spelling cells), length-header v w, length-cells cells)
 
--- a log of so many cells has so many bytes
 pub length-log : (count : ℕ) (bytes : List ℕ) → IsLogOf count bytes → length bytes ≡ 16 + 32 * count + 1
 length-log count bytes of =
     omega (arith, ap length of.text.text, length-append (front_of newest of.width of.cells) (of.text.commit_byte ∷ []), length-front_of newest of.width of.cells, of.count_is)
@@ -30,7 +29,7 @@ fit_more : (cells more : List Cell) → AllByRecursion (IsCell newest) cells →
 fit_more [] more all fit = fit
 fit_more (c ∷ cells) more all fit = (all.0, fit_more cells more all.1 fit)
 
--- behind a set commit byte it is the text of the cells, and a clear commit byte
+-- After a set commit byte it is the text of the cells, and a clear commit byte.
 pub behind_first-text : (cell : Cell) (cells : List Cell) → 1 ∷ behind_first (cell ∷ cells) ≡ flat_map spelling (cell ∷ cells) ++ 0 ∷ []
 behind_first-text cell cells = sym (append_assoc (spelling cell) (flat_map spelling cells) (0 ∷ []))
 
@@ -42,17 +41,17 @@ text_more w cells (cell ∷ others) some =
     ∙ ap (λ (l : List ℕ). l ++ 0 ∷ []) (append_assoc (header_text newest w) (flat_map spelling cells) (flat_map spelling (cell ∷ others)))
     ∙ ap (λ (l : List ℕ). header_text newest w ++ l ++ 0 ∷ []) (sym (flat_map-append spelling cells (cell ∷ others)))
 
--- with their commit byte set, the cells behind the others count
+-- If their commit byte is set, the cells after the others count.
 pub text_of_more : (w : ℕ) (cells more : List Cell) (bytes : List ℕ) → AllByRecursion (IsCell newest) cells → AllByRecursion (IsCell newest) more → more ≢ []
     → bytes ≡ marked (front_of newest w cells) 1 (behind_first more) → IsLogText newest w (cells ++ more) bytes
 text_of_more w cells more bytes all fit some e =
     record { cells_fit = fit_more cells more all fit; commit_byte = 0; clear = λ z. cc z; text = e ∙ text_more w cells more some }
 
--- whatever stands behind the text of cells, the bytes hold them
+-- The bytes hold the cells, whatever follows the text.
 pub holds_front : (w : ℕ) (cells : List Cell) (file rest c : List ℕ) → IsLogText newest w cells file → c ≡ file ++ rest → HoldsCells newest w cells c
 holds_front w cells file rest c text e = record { front = file; rest = rest; parts = e; text = text }
 
--- with more cells behind them, they hold all of these or none, whatever the commit byte is
+-- With more cells after them, the bytes hold all of these or none, whatever the commit byte is.
 pub staged-either : (w : ℕ) (cells more : List Cell) (c : List ℕ) → AllByRecursion (IsCell newest) cells → AllByRecursion (IsCell newest) more → more ≢ []
     → IsStaged w cells more c → HoldsAllOrNone w cells more c
 staged-either w cells more c all fit some staged = elim (cases_eq staged.commit_byte 1) [

@@ -11,7 +11,7 @@ use Rattle.split_log.specs.Commit.{IsUncommitted}
 use Rattle.split_log.proofs.Torn.{marked, torn_mark, written_mark}
 use Rattle.split_log.proofs.Cells.{length-front_of, staged-either, text_of_more}
 
--- one stretch after the other
+-- One stretch of moments after the other.
 pub joined : (old mid new : Drive) (P Q R : List ℕ → Type 0) → ((c : List ℕ) → P c → R c) → ((c : List ℕ) → Q c → R c) → LeavesOnly old mid P → LeavesOnly mid new Q
     → LeavesOnly old new R
 joined old mid new P Q R by_first by_second first second = record {
@@ -22,7 +22,7 @@ joined old mid new P Q R by_first by_second first second = record {
       (second.before t c (omega (arith, le, first.later)) left);
 }
 
--- what holds of each image gives what follows from it
+-- A weaker predicate holds of each image too.
 pub widened : (old new : Drive) (P Q : List ℕ → Type 0) → ((c : List ℕ) → P c → Q c) → LeavesOnly old new P → LeavesOnly old new Q
 widened old new P Q more leaves = record {
   later = leaves.later;
@@ -30,11 +30,11 @@ widened old new P Q more leaves = record {
   before = λ t c le left. ⊎_elim (λ earlier. inl earlier) (λ p. inr (more c p)) (leaves.before t c le left);
 }
 
--- the cells alone are one of both
+-- The cells alone are one of the two cases.
 pub only-none : (w : ℕ) (cells more : List Cell) (old new : Drive) → LeavesOnly old new (HoldsCells newest w cells) → LeavesOnly old new (HoldsAllOrNone w cells more)
 only-none w cells more old new leaves = widened old new (HoldsCells newest w cells) (HoldsAllOrNone w cells more) (λ c holds. inl holds) leaves
 
--- and so they are before one of both
+-- A stretch that leaves the cells alone, before a stretch that leaves either.
 pub none-then : (w : ℕ) (cells more : List Cell) (old mid new : Drive) → LeavesOnly old mid (HoldsCells newest w cells) → LeavesOnly mid new (HoldsAllOrNone w cells more)
     → LeavesOnly old new (HoldsAllOrNone w cells more)
 none-then w cells more old mid new first second =
@@ -45,7 +45,7 @@ module _ (w at : ℕ) (cells more : List Cell) (d0 : Drive) (ready : IsUncommitt
   long = length-front_of newest w cells ∙ sym ready.at_is
 
   module _ (d1 : Drive) (result1 : Result (Unit {0}) DiskFault) (first : Syncs d0 d1 result1) where
-    -- the first sync leaves the cells alone
+    -- The first sync leaves the cells alone.
     pub synced : LeavesOnly d0 d1 (HoldsCells newest w cells)
     synced =
         goes_on d0 d0 d1 (HoldsCells newest w cells) (started d0 (HoldsCells newest w cells) laws ready.alone) first.time
@@ -59,7 +59,7 @@ module _ (w at : ℕ) (cells more : List Cell) (d0 : Drive) (ready : IsUncommitt
       only_staged c left = fixed ready.bytes ready.told c left ∙ ready.staged.text
 
       module _ (d2 : Drive) (result2 : Result (Unit {0}) DiskFault) (second : Writes d1 d2 at (1 ∷ []) result2) where
-        -- from the write on all cells are there, whatever that commit byte is
+        -- From the write on, all cells are there, whatever that commit byte is.
         pub now_staged : LeavesNow d2 (IsStaged w cells more)
         now_staged c left =
             let from = second.crash c left in
@@ -80,7 +80,7 @@ module _ (w at : ℕ) (cells more : List Cell) (d0 : Drive) (ready : IsUncommitt
           pub done : LeavesOnly d0 d3 (HoldsAllOrNone w cells more)
           done = goes_on d0 d2 d3 (HoldsAllOrNone w cells more) committing third.time (λ c left. now_either c (third.crash c left))
 
-          -- after all three the log has the cells
+          -- After all three calls the log has the cells.
           pub committed : ((xs : List ℕ) → d1.bytes ≡ Some xs → (ys : List ℕ) × (d2.bytes ≡ Some ys) × Holds xs at (1 ∷ []) ys)
               → ((xs : List ℕ) → d2.bytes ≡ Some xs → Only xs d3.images) → IsLog w (cells ++ more) d3
           committed mark_written all_fixed =

@@ -1,4 +1,4 @@
--- What a crash leaves of the write of a cell behind the commit byte at the end of a log, and of the calls that set it.
+-- What a crash leaves of the write of cells after the last commit byte of a log, and of the calls that set that byte.
 use Rattle.std.proofs.Common.{◌≡◌, ℕ, ◌+◌, List, [], ◌∷◌, ◌++◌, length, drop, Some, Result, sym, ◌∙◌, ap, subst, arith, length-append}
 use Rattle.std.proofs.lemmas.List.{append-nil}
 use Rattle.disk_trait.specs.declared.disk.DiskFault.{DiskFault}
@@ -14,7 +14,7 @@ use Rattle.split_log.proofs.Torn.{marked, torn_behind, written_behind}
 use Rattle.split_log.proofs.Cells.{length-front_of, holds_front}
 use Rattle.split_log.proofs.Commits.{joined, only-none, none-then}
 
--- a crash leaves the cells of a log
+-- A crash leaves the cells of a log.
 pub before_all : (w : ℕ) (cells : List Cell) (drive : Drive) → KeepsLaws drive → IsLog w cells drive → LeavesOnly drive drive (HoldsCells newest w cells)
 before_all w cells drive laws log =
     started drive (HoldsCells newest w cells) laws (λ c left. holds_front w cells log.bytes [] c log.text (log.durable c left ∙ sym (append-nil log.bytes)))
@@ -37,14 +37,14 @@ module _ (w : ℕ) (cells more : List Cell) (piece : List ℕ) (at : ℕ) (d0 : 
         torn_behind (front_of newest w cells) at long log.text.commit_byte (length piece) c torn ∙ ap (λ (l : List ℕ). l ++ drop (at + 1) c) (sym log.text.text) in
         holds_front w cells log.bytes (drop (at + 1) c) c log.text parts
 
-    -- the write, failed or not, leaves the cells alone
+    -- The write leaves the cells alone, whether it failed or not.
     pub written : LeavesOnly d0 d1 (HoldsCells newest w cells)
     written = goes_on d0 d0 d1 (HoldsCells newest w cells) (before_all w cells d0 laws ready.log) first.time now_written
 
     pub written-either : LeavesOnly d0 d1 (HoldsAllOrNone w cells more)
     written-either = only-none w cells more d0 d1 written
 
-    -- where it succeeded, the cell lies behind the commit byte
+    -- If the write succeeded, the cells are after the commit byte.
     pub uncommitted : ((xs : List ℕ) → d0.bytes ≡ Some xs → (ys : List ℕ) × (d1.bytes ≡ Some ys) × Holds xs (at + 1) piece ys) → IsUncommitted w at cells more d1
     uncommitted stands =
         let log = ready.log in
@@ -64,7 +64,7 @@ module _ (w : ℕ) (cells more : List Cell) (piece : List ℕ) (at : ℕ) (d0 : 
           alone = now_written;
         }
 
-    -- and then it was committed, or a call of that failed
+    -- Then the cells were committed, or a call of that failed.
     module _ (d2 : Drive) where
       pub placing : LeavesOnly d1 d2 (HoldsAllOrNone w cells more) → LeavesOnly d0 d2 (HoldsAllOrNone w cells more)
       placing after = none-then w cells more d0 d1 d2 written after

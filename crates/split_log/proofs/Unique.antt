@@ -1,4 +1,4 @@
--- Bytes hold the cells of one list at most.
+-- Bytes hold the cells of at most one list.
 use Rattle.std.proofs.Common.{◌≡◌, ◌≢◌, ℕ, List, [], ◌∷◌, ◌++◌, get_or, take, drop, refl, sym, ◌∙◌, ap, append_assoc}
 use Rattle.std.proofs.lemmas.List.{take_at, drop_at}
 use Rattle.std.specs.List.{flat_map, AllByRecursion}
@@ -8,7 +8,7 @@ use Rattle.cell_format.proofs.Decoded.{same_cell, fits-newest, length-spelling}
 use Rattle.split_log.proofs.Cells.{length-header}
 use Rattle.split_log.specs.LogText.{HoldsCells}
 
--- the text of cells, and then a commit byte and whatever follows
+-- The text of cells, then a commit byte, then any bytes.
 abbrev before : List Cell → ℕ → List ℕ → List ℕ
 before cells mark rest = flat_map spelling cells ++ mark ∷ rest
 
@@ -27,12 +27,12 @@ same_cells (c ∷ first) (d ∷ second) g h r s af as_ ng nh e =
     sym (drop_at (spelling c) (before first g r) 32 (length-spelling c)) ∙ ap (drop 32) parts ∙ drop_at (spelling d) (before second h s) 32 (length-spelling d) in
     λ i. same_cell c d af.0 as_.0 heads i ∷ same_cells first second g h r s af.1 as_.1 ng nh tails i
 
--- cells of any version are cells of the newest
+-- Cells of any version are cells of the newest version.
 all-newest : (v : ℕ) (cells : List Cell) → AllByRecursion (IsCell v) cells → AllByRecursion (IsCell newest) cells
 all-newest v [] all = tt
 all-newest v (c ∷ cells) all = (fits-newest v c all.0, all-newest v cells all.1)
 
--- whatever version each is read by
+-- Both readings find the same cells, whatever their versions.
 pub holds-same : (v u w : ℕ) (first second : List Cell) (bytes : List ℕ) → HoldsCells v w first bytes → HoldsCells u w second bytes → first ≡ second
 holds-same v u w first second bytes a b =
     let text : (n : ℕ) (cells : List Cell) (h : HoldsCells n w cells bytes) → bytes ≡ header_text n w ++ before cells h.text.commit_byte h.rest =

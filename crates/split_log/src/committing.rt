@@ -1,4 +1,4 @@
-//! The three device calls that make cells count.
+//! The three device calls that commit cells.
 ghost use Rattle.std.specs.Prelude.{◌≡◌, ◌+◌, ◌≤◌, ◌^◌, ◌++◌, ℕ, List, OnOk, OnErr, is_some};
 ghost use Rattle.disk_trait.specs.Drive.{IsWithin, CountsFaults, MadeWell};
 ghost use Rattle.disk_trait.specs.Moments.{LeavesOnly};
@@ -8,8 +8,8 @@ ghost use Rattle.split_log.specs.Commit.{IsUncommitted, StopsCommit};
 
 use disk_trait::{DiskFault, LogDisk};
 
-/// Makes cells count that were written behind the clear commit byte at this place, by three device calls: a sync, that byte, a sync. None is made
-/// after one that failed.
+/// Commits the cells that were written after the clear commit byte at `at`. It makes three device calls: a sync, a
+/// write of that byte, and a sync. No device call follows one that failed.
 pub fn commit<D: LogDisk>(disk: &mut D, at: u64) -> Result<(), DiskFault>
     requires within { IsWithin (D.drive disk.old) at }
     requires small { at + 1 ≤ 2 ^ 40 }
@@ -23,10 +23,10 @@ pub fn commit<D: LogDisk>(disk: &mut D, at: u64) -> Result<(), DiskFault>
     ensures told { is_some (D.drive disk.new).bytes ≡ is_some (D.drive disk.old).bytes }
     ensures cause { CountsFaults (D.drive disk.old) (D.drive disk.new) result }
 {
-    // Synced first: behind a commit byte that a crash may set, whatever stood there would count.
+    // Sync first. A crash may set the commit byte early, and then whatever follows the byte would count as cells.
     disk.sync()?;
     disk.write(at, &[1])?;
-    // Synced before the answer: until then a crash may leave the byte clear.
+    // Sync before the answer. Until then a crash may leave the byte clear.
     disk.sync()?;
     Ok(())
 }

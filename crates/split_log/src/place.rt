@@ -14,10 +14,10 @@ use cell_format::{Cell, encode};
 use disk_trait::{DiskFault, LogDisk};
 use std::alloc::{AllocError, Global};
 
-/// The bytes of a cell.
+/// The length of a cell in bytes, with its commit byte.
 const CELL: usize = 32;
 
-/// Writes a piece behind the clear commit byte at a place, and then sets that byte.
+/// Writes a piece after the clear commit byte at `at`, and then sets that byte.
 pub(crate) fn place<D: LogDisk>(disk: &mut D, at: u64, piece: &[u8]) -> Result<(), DiskFault>
     requires whole { (xs : List ℕ) → (D.drive disk.old).bytes ≡ Some xs → length xs ≡ at + 1 }
     requires small { at + 1 + length piece.now ≤ 2 ^ 40 }
@@ -35,7 +35,7 @@ pub(crate) fn place<D: LogDisk>(disk: &mut D, at: u64, piece: &[u8]) -> Result<(
     commit(disk, at)
 }
 
-/// The text of cells, each with its commit byte set, and a clear one after the last.
+/// The text of the cells, each with its commit byte set, and a clear commit byte after the last one.
 pub(crate) fn text_of(alloc: Global, cells: &[Cell]) -> Result<Vec<u8>, AllocError>
     requires few { length cells.now ≤ most_cells }
 
@@ -50,7 +50,7 @@ pub(crate) fn text_of(alloc: Global, cells: &[Cell]) -> Result<Vec<u8>, AllocErr
     Ok(text)
 }
 
-/// A cell without its commit byte, and a clear one for the cell after it.
+/// The bytes of a cell after its commit byte, and a clear commit byte for the next cell.
 pub(crate) fn behind_commit_byte(cell: &Cell) -> [u8; 32]
     ensures bytes { result ≡ body_of cell.now ++ 0 ∷ [] }
     ensures fits { IsCell newest cell.now }

@@ -1,4 +1,4 @@
--- Each call that fails ends the commit; what stands then follows from how many went well before.
+-- A call that fails ends the commit. The number of calls before it decides what is on the drive.
 use Rattle.std.proofs.Common.{true, false, [], ◌∷◌, is_some, refl, ◌∙◌, ap, lit≤, arith}
 use Rattle.disk_trait.proofs.Calls.{made-none, made-then}
 use Rattle.split_log.proofs.Kept.{on_err, not_ok}

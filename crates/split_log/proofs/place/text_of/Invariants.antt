@@ -3,7 +3,7 @@ use Rattle.std.specs.List.{flat_map, AllByRecursion}
 use Rattle.cell_format.specs.Spelling.{newest, IsCell, spelling}
 use Rattle.split_log.proofs.place.text_of.Given as goal
 
--- the text of the cells so far, each of which fits
+-- The text of the cells so far. Each of these cells fits.
 abbrev pub invariant-loop-cell : goal.invariant-loop-cell
 invariant-loop-cell l = record {
   text : l.text.items ++ flat_map spelling (drop l.cell-index l.cells) ≡ flat_map spelling l.cells;
