@@ -1,4 +1,4 @@
--- A log of no cells is made, and then all cells are written over it.
+-- A log of no cells is created, and then all cells are written over it.
 use Rattle.std.proofs.Common.{List, subst}
 use Rattle.cell_format.specs.declared.cell.Cell.{Cell}
 use Rattle.log_compact.specs.Compacting.{IsCompacted, KeepsOnWay}
