@@ -49,7 +49,7 @@ same_count drive w count seen a log ready kept is same = record {
   newest = ready.newest;
 }
 
--- the drive failed exactly where that is why a log isn't opened
+-- The drive failed if and only if that is why a log isn't opened.
 drives_disk : (why : OpenFault) → is_drives (Log why) ≡ true → why ≡ open_fault.Disk
 drives_disk open_fault.NotLog is = absurd (true≢false (sym is))
 drives_disk (open_fault.OldLog version width) is = absurd (true≢false (sym is))
