@@ -211,6 +211,7 @@ refused_sync wanted most a b result kept_newest syncs made file = record {
   unfailed = λ other. absurd (other refl);
   calm = λ other. absurd (other refl);
   no_log = λ bytes told none. untouched-sync a b result syncs;
+  told = ap is_some syncs.bytes;
   calls = sync_refused a b made;
   file = file;
 }
@@ -221,6 +222,7 @@ refused_read wanted most a b c result fault kept_newest syncs made stays same ca
   unfailed = λ other. untouched-stays a b c (untouched-sync a b result syncs) stays;
   calm = λ other. calm other ∙ same;
   no_log = λ bytes told none. untouched-stays a b c (untouched-sync a b result syncs) stays;
+  told = ap is_some (stays.bytes ∙ syncs.bytes);
   calls = read_refused a b c fault made stays.calls;
   file = file;
 }
@@ -235,12 +237,13 @@ log_stands wanted w most len drive seen bytes told at none =
     no_log (Some v) same none = subst (λ u. HasNoLog u most bytes) same none
     no_log None known none = none w known
 
-pub refused_cut : (wanted : Option ℕ) (w most len : ℕ) (a b c d : Drive) (seen : Seen) → KeepsNewest a d → b.bytes ≡ a.bytes → IsFoundFor newest wanted most b w seen len → MadeWell 1 a b → Stays b c → Made (false ∷ []) c d ⊎ Made (true ∷ false ∷ []) c d → SameFile a d → LeavesUnopened wanted most a d Disk
-refused_cut wanted w most len a b c d seen kept_newest kept at made stays failed file = record {
+pub refused_cut : (wanted : Option ℕ) (w most len : ℕ) (a b c d : Drive) (seen : Seen) → KeepsNewest a d → b.bytes ≡ a.bytes → IsFoundFor newest wanted most b w seen len → MadeWell 1 a b → Stays b c → is_some d.bytes ≡ is_some c.bytes → Made (false ∷ []) c d ⊎ Made (true ∷ false ∷ []) c d → SameFile a d → LeavesUnopened wanted most a d Disk
+refused_cut wanted w most len a b c d seen kept_newest kept at made stays cut failed file = record {
   newest = kept_newest;
   unfailed = λ other. absurd (other refl);
   calm = λ other. absurd (other refl);
   no_log = λ bytes told none. absurd (log_stands wanted w most len b seen bytes (kept ∙ told) at none);
+  told = cut ∙ ap is_some (stays.bytes ∙ kept);
   calls = cut_refused a b c d made stays.calls failed;
   file = file;
 }

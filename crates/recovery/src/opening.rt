@@ -97,7 +97,7 @@ fn cut_behind<D: LogDisk>(disk: &mut D, end: u64, len: u64) -> Result<(), DiskFa
 
     ensures done { OnOk result ((xs : List ℕ) → (D.drive disk.old).bytes ≡ Some xs → Only xs (D.drive disk.old).images
         → ((D.drive disk.new).bytes ≡ Some (take end xs)) × Only (take end xs) (D.drive disk.new).images) }
-    ensures told { OnOk result (is_some (D.drive disk.new).bytes ≡ is_some (D.drive disk.old).bytes) }
+    ensures told { is_some (D.drive disk.new).bytes ≡ is_some (D.drive disk.old).bytes }
     ensures any_moment { (w : ℕ) (cells : List Cell) → end ≡ 17 + 32 * length cells → LeavesNow (D.drive disk.old) (Recovers w cells)
         → LeavesOnly (D.drive disk.old) (D.drive disk.new) (Recovers w cells) }
     ensures newest { 9 ≤ end → KeepsNewest (D.drive disk.old) (D.drive disk.new) }
