@@ -56,15 +56,16 @@ module _ (w : ℕ) (cells : List Cell) (legal : IsLegalCells w cells) (old mid n
   }
 
   -- The drive failed while the cells were written.
-  pub failed-after : Makes w old mid → Rose mid.faults new.faults → EndsAtFault mid new → FailsToCompact old new
-  failed-after made rose ended = record {
+  pub failed-after : Makes w old mid → is_some new.bytes ≡ is_some mid.bytes → Rose mid.faults new.faults → EndsAtFault mid new → FailsToCompact old new
+  failed-after made told_on rose ended = record {
     rose = subst (λ (n : ℕ). Rose n new.faults) made.same rose;
+    told = told_on ∙ made.told;
     calls = inr (ends-then old mid new (record { count = 2; calls = made.calls }) ended);
   }
 
 -- The drive failed while the log of no cells was created.
 pub failed-making : (old new : Drive) → FailsToMake old new → FailsToCompact old new
-failed-making old new fails = record { rose = fails.rose; calls = by_case fails.calls }
+failed-making old new fails = record { rose = fails.rose; told = fails.told; calls = by_case fails.calls }
   where
     by_case : HasNoMore old.calls new.calls ⊎ ((went_well : ℕ) × StopsAfter 1 went_well old new) → StopsAtFault old new
     by_case (inl none) = inl (well-none old new none)

@@ -31,6 +31,7 @@ pub record IsCompacted (w : ℕ) (cells : List Cell) (old new : Drive) : Type 0 
 -- The drive failed, and no call follows the one that failed.
 pub record FailsToCompact (old new : Drive) : Type 0 where
   pub rose : Rose old.faults new.faults
+  pub told : is_some new.bytes ≡ is_some old.bytes
   pub calls : StopsAtFault old new
 
 -- Why no log was written. Either the file is longer: then it is unchanged, and no device call failed. Or the drive

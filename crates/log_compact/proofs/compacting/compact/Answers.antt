@@ -29,4 +29,4 @@ returns-in-Err-write_cells-clause-any_moment g c =
 pub returns-in-Err-write_cells-clause-refused : goal.returns-in-Err-write_cells-clause-refused
 returns-in-Err-write_cells-clause-refused g c =
     failed-after c.args.width c.of-cells.result c.of-cells.ensures.state.legal (g.D.LogDisk.drive c.args.target) (g.D.LogDisk.drive c.in-Ok.disk) (g.D.LogDisk.drive c.write_cells.new.disk)
-    c.in-Ok.ensures.made c.in-Err-write_cells.ensures.cause.failed c.in-Err-write_cells.ensures.stopped
+    c.in-Ok.ensures.made c.write_cells.ensures.told c.in-Err-write_cells.ensures.cause.failed c.in-Err-write_cells.ensures.stopped
