@@ -38,4 +38,4 @@ module _ {D : Type 0} (drive : D → Drive) (cell : Cell) (log now : LogView D) 
   add_failed disk number same later fails =
       subst (λ (o : FollowerView D). FailsToAdd cell number o.state.held (drive o.disk) (drive disk)) before
       (subst (λ (d : D). FailsToAdd cell number log.cells (drive log.disk) (drive d)) (sym same)
-      (record { named = fails.named; rose = fails.rose; later = later; calls = (fails.broken.went_well, fails.broken.stops); file = fails.file; now = fails.either; any_moment = any_moment }))
+      (record { named = fails.named; rose = fails.rose; told = fails.told; later = later; calls = (fails.broken.went_well, fails.broken.stops); file = fails.file; now = fails.either; any_moment = any_moment }))

@@ -237,6 +237,7 @@ module _ (w : ℕ) (cells : List Cell) (a b : Drive) (reads : IsOnlyRead a b) wh
   refused_before c fault is = record {
     cause = cause_before c fault is.cause;
     may = is.may;
+    told = is.told ∙ ap is_some reads.stays.bytes;
     rose = λ failed. omega (arith, reads.calm, is.rose failed);
     calm = λ quiet. is.calm quiet ∙ reads.calm;
     untouched = λ quiet bytes told. untouched_before a b c reads.stays (is.untouched quiet bytes (reads.stays.bytes ∙ told));
@@ -288,6 +289,7 @@ not_made w cells a b cause refused is keeps =
     record {
       cause = λ bytes told long. (keeps.in_use bytes told long).calls;
       may = λ why told. absurd (cc told);
+      told = fails.told;
       rose = λ failed. fails.rose;
       calm = λ quiet. absurd (true≢false quiet);
       untouched = λ quiet. absurd (true≢false quiet);
@@ -320,6 +322,7 @@ module _ (w : ℕ) (cells : List Cell) (a b : Drive) (long : (bytes : List ℕ) 
   not_compared e is = record {
     cause = λ bytes told. (long bytes told, is.cause bytes told);
     may = λ why told. let same : e ≡ why = cc told in subst (MayTell newest (Some w) most_held) same is.may;
+    told = ap is_some is.stays.bytes;
     rose = λ failed. is.rose (drives_log e failed);
     calm = λ quiet. is.calm (quiet_log e quiet);
     untouched = λ quiet bytes told. untouched_read a b is.stays;
@@ -338,6 +341,7 @@ module _ (w : ℕ) (cells : List Cell) (a b : Drive) (long : (bytes : List ℕ) 
             record { own = found.own; openable = found.openable; there = omega (arith, less, found.count_is); same = found.same_is; other = found.other less },
       );
       may = λ why told. absurd (cc told);
+      told = ap is_some is.reads.stays.bytes;
       rose = λ failed. absurd (true≢false (sym failed));
       calm = λ quiet. is.reads.calm;
       untouched = λ quiet bytes told. untouched_read a b is.reads.stays;
@@ -410,6 +414,7 @@ module _ (w : ℕ) (cells : List Cell) (a b : Drive) (long : (bytes : List ℕ) 
       refused_again c fault re = record {
         cause = again_cause c fault re;
         may = re.may;
+        told = re.told ∙ ap is_some is.reads.stays.bytes;
         rose = λ failed. omega (arith, is.reads.calm, re.rose failed);
         calm = λ quiet. re.calm quiet ∙ is.reads.calm;
         untouched = again_untouched c fault re;

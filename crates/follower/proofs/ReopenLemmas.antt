@@ -25,6 +25,7 @@ other_count drive w count number seen a b c back ready kept other least = subst 
         other (sym found_count ∙ ap length one ∙ count_is),
   );
   may = λ why is. absurd (cc is);
+  told = ready.told;
   rose = λ failed. absurd (true≢false (sym failed));
   calm = λ quiet. ready.same;
   untouched = λ why is. absurd (cc is);
@@ -62,6 +63,7 @@ pub not_opened : (w count : ℕ) (a b : Drive) (why : OpenFault) → RefusesWant
 not_opened w count a b why refused kept = record {
   cause = refused.fault.shows;
   may = λ other is. let same : why ≡ other = cc is in subst (MayTell newest (Some w) most_cells) same refused.fault.may;
+  told = refused.leaves.told;
   rose = λ failed. refused.fault.rose (drives_disk why failed);
   calm = λ quiet. refused.leaves.calm (λ disk. true≢false (subst (λ e. is_drives (Log e) ≡ false) disk quiet));
   untouched = λ other is sound. let same : why ≡ other = cc is in refused.leaves.unfailed (λ disk. sound (sym same ∙ disk));

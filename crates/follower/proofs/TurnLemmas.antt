@@ -102,7 +102,7 @@ module _ {D : Type 0} (drive : D → Drive) (cells : List Cell) (old : FollowerV
   no_room turn disk fault same is room =
       subst (FailsTurn drive cells turn old disk) (sym is)
       (subst (λ (d : D). FailsTurn drive cells turn old d Memory) (sym same) (record {
-        refused = record { cause = (room, refl); may = λ why told. absurd (cc told); calm = λ quiet. refl; later = omega arith; calls = λ all told. told; log = λ quiet. holds.log; file = λ all told. told };
+        refused = record { cause = (room, refl); may = λ why told. absurd (cc told); told = refl; calm = λ quiet. refl; later = omega arith; calls = λ all told. told; log = λ quiet. holds.log; file = λ all told. told };
         any_moment = stands;
       }))
 
@@ -159,6 +159,7 @@ module _ {D : Type 0} (drive : D → Drive) (cells : List Cell) (old : FollowerV
       refused = record {
         cause = ((next.brings, next.below), is.named, is.rose, λ bytes told c left. either c (is.now old.width (take old.state.held cells) (holds.log bytes told) c left));
         may = λ why told. absurd (cc told);
+        told = is.told;
         calm = λ quiet. absurd (true≢false quiet);
         later = is.later;
         calls = is.calls;
@@ -268,7 +269,7 @@ module _ {D : Type 0} (drive : D → Drive) (cells : List Cell) (old : FollowerV
 
   not_again : (disk : D) (fault : FollowFault) → RefusesReopen old.width old.state.held (drive old.disk) (drive disk) fault → FailsTurn drive cells Restart old disk fault
   not_again disk fault is = record {
-    refused = record { cause = restart_cause disk fault is; may = is.may; calm = is.calm; later = is.later; calls = restart_calls disk fault is; log = restart_log disk fault is; file = is.file };
+    refused = record { cause = restart_cause disk fault is; may = is.may; told = is.told; calm = is.calm; later = is.later; calls = restart_calls disk fault is; log = restart_log disk fault is; file = is.file };
     any_moment = kept (drive disk) is.any_moment is.newest (most_left fault old.state.held) (held-left fault old.state.held);
   }
 

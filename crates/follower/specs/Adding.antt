@@ -35,6 +35,7 @@ pub record IsAdded {D : Type 0} (drive : D → Drive) (cell : Cell) (old new : F
 pub record FailsToAdd (cell : Cell) (number held : ℕ) (old new : Drive) : Type 0 where
   pub named : number ≡ held
   pub rose : Rose old.faults new.faults
+  pub told : is_some new.bytes ≡ is_some old.bytes
   pub later : old.faults ≤ new.faults
   pub calls : (went_well : ℕ) × StopsAfter 3 went_well old new
   pub file : SameFile old new

@@ -91,6 +91,7 @@ pub record RefusesOpen (w : ℕ) (cells : List Cell) (old new : Drive) (fault : 
   pub cause : IsOpenCause w cells old new fault
   -- Whether the bytes are known or not.
   pub may : (why : OpenFault) → fault ≡ Log why → MayTell newest (Some w) most_held why
+  pub told : is_some new.bytes ≡ is_some old.bytes
   pub rose : is_drives fault ≡ true → Rose old.faults new.faults
   pub calm : is_drives fault ≡ false → new.faults ≡ old.faults
   pub untouched : is_drives fault ≡ false → (bytes : List ℕ) → old.bytes ≡ Some bytes → IsUntouched old new

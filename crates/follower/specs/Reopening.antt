@@ -50,6 +50,7 @@ CallsUnopened _ old new = ⊥
 pub record RefusesReopen (w count : ℕ) (old new : Drive) (fault : FollowFault) : Type 0 where
   pub cause : IsReopenCause w count old fault
   pub may : (why : OpenFault) → fault ≡ Log why → MayTell newest (Some w) most_cells why
+  pub told : is_some new.bytes ≡ is_some old.bytes
   pub rose : is_drives fault ≡ true → Rose old.faults new.faults
   pub calm : is_drives fault ≡ false → new.faults ≡ old.faults
   pub untouched : (why : OpenFault) → fault ≡ Log why → why ≢ open_fault.Disk → IsUntouched old new

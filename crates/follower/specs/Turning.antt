@@ -75,6 +75,7 @@ CallsOfRefused fault old new = CallsUnopened fault old new
 pub record RefusesTurn {D : Type 0} (drive : D → Drive) (cells : List Cell) (turn : Turn) (old : FollowerView D) (disk : D) (fault : FollowFault) : Type 0 where
   pub cause : IsTurnCause drive cells turn old disk fault
   pub may : (why : OpenFault) → fault ≡ Log why → MayTell newest (Some old.width) most_cells why
+  pub told : is_some (drive disk).bytes ≡ is_some (drive old.disk).bytes
   pub calm : is_drives fault ≡ false → (drive disk).faults ≡ (drive old.disk).faults
   pub later : (drive old.disk).faults ≤ (drive disk).faults
   pub calls : CallsOfRefused fault (drive old.disk) (drive disk)
