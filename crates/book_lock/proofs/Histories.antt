@@ -1,4 +1,4 @@
--- Beginnings of one history.
+-- Prefixes of one history.
 use Rattle.std.proofs.Common.{◌≡◌, ◌⊎◌, ℕ, zero, suc, ◌<◌, ◌≤◌, List, [], ◌∷◌, ◌++◌, length, Bool, true, false, refl, sym, ap, ◌∙◌, subst, ⊎_elim, inl, inr, arith, length-append, append_assoc}
 use Rattle.std.proofs.lemmas.Bool.{ltb-true}
 use Rattle.std.proofs.lemmas.Bool.Decides.{nat_tests}
@@ -27,7 +27,7 @@ module _ {A : Type 0} where
       go [] e = sym (append-nil xs) ∙ e
       go (x ∷ t) e = let l = ap length (sym e) ∙ length-append xs (x ∷ t) in absurd (omega arith)
 
-  -- of two beginnings of one list the shorter begins the longer
+  -- Of two prefixes of one list, the shorter is a prefix of the longer.
   pub prefix_of_two : (xs ys log : List A) → IsPrefix xs log → IsPrefix ys log → length xs ≤ length ys → IsPrefix xs ys
   prefix_of_two [] ys log p q le = (ys, refl)
   prefix_of_two (x ∷ xs) [] log p q le = absurd (omega arith)
@@ -54,7 +54,7 @@ module _ {A : Type 0} where
   get_last [] e = refl
   get_last (x ∷ xs) e = get_last xs e
 
-  -- what stands in a list with one more
+  -- The entries of a list with one more.
   pub get_snoc : (xs : List A) (e : A) (k : ℕ) (x : A) → slice_get (xs ++ e ∷ []) k ≡ Some x → (slice_get xs k ≡ Some x) ⊎ ((k ≡ length xs) × (e ≡ x))
   get_snoc [] e zero x h = inr (refl, cc)
   get_snoc [] e (suc k) x h = absurd (cc)

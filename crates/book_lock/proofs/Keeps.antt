@@ -24,7 +24,7 @@ use Rattle.book_lock.proofs.Positions.{once_below-one, once_below-in, once_below
 use Rattle.book_lock.proofs.Histories.{prefix_refl, prefix_longer, prefix_length, prefix_whole, prefix_of_two, get_prefix, get_below, get_snoc, longer_begins, longer_length}
 use Rattle.book_lock.proofs.Totals.{total_set, total_snoc, total_least, total_two, total_alone}
 
--- an owner stays where its view owns no less
+-- An owner stays one if its view owns no less.
 pub ender_stays : (views : List View) (log : List Entry) (p n id : ℕ) (v w : View) → get_elem? views id ≡ some v → id < length views → ((k : ℕ) → Owns v.own k → Owns w.own k) → HasEnder views log p n → HasEnder (set views id w) log p n
 ender_stays views log p n id v w at inside more (j, q, u, there, has_p, has_q, lt, begins) = dite (ℕ_discrete j id)
     (λ (e : j ≡ id).
@@ -37,7 +37,7 @@ inside_of [] id v e = absurd (some-ne-none v (sym e))
 inside_of (x ∷ xs) zero v e = omega arith
 inside_of (x ∷ xs) (suc id) v e = let h = inside_of xs id v e in omega arith
 
--- each view fits, where the one that changed does
+-- Each view fits, if the one that changed does.
 pub fits_set : (log : List Entry) (start : Origin) (views : List View) (id : ℕ) (w : View) → Fits log start w → ((j : ℕ) (u : View) → j ≢ id → get_elem? views j ≡ some u → Fits log start u)
     → (j : ℕ) (u : View) → get_elem? (set views id w) j ≡ some u → Fits log start u
 fits_set log start views id w mine others j u e = ⊎_elim
@@ -45,7 +45,7 @@ fits_set log start views id w mine others j u e = ⊎_elim
     (λ (t : (j ≢ id) × (get_elem? views j ≡ some u)). others j u t.0 t.1)
     (at_set views id j w u e)
 
--- a seat with a part was taken in by no other, so it is of the origin
+-- A seat with a part was joined to no other, so it has the origin.
 pub has_origin : (log : List Entry) (start : Origin) (v : View) → Fits log start v → 0 < v.parts → v.origin ≡ start
 has_origin log start v f some_part = ⊎_elim (λ (is : v ≡ spent). let none : v.parts ≡ 0 = ap parts_of is in absurd (omega arith)) (λ (is : v.origin ≡ start). is) f.same
 
@@ -82,7 +82,7 @@ module _ {V : Type 0} (entries : V → List Entry) (origin : V → Origin) (star
       }
       one (suc j) v e = absurd (some-ne-none v (sym e))
 
-  -- the rule after a step of one seat, from what changes
+  -- The rule after a step of one seat, from what changes.
   renewed : (s : St) (k : Rule s) (id : ℕ) (v w : View) (words : List ℕ) (homes : List (opt.Option (Option V))) (log : List Entry)
       → get_elem? s.views id ≡ some v
       → length words ≡ 3
@@ -109,7 +109,7 @@ module _ {V : Type 0} (entries : V → List Entry) (origin : V → Origin) (star
     ended = ended;
   }
 
-  -- whoever saw all, and owns the one Begin of a number, owns its ends
+  -- A pass that has seen the whole history, and owns the one begin of a number, owns its ends.
   owns_ends : (s : St) (k : Rule s) (id : ℕ) (v : View) → get_elem? s.views id ≡ some v → OwnsEnds k.log v.own
   owns_ends s k id v at n q begun only mine p end =
       let (j, r, u, there, has_p, has_r, lt, first) = k.ended p n end in
@@ -126,21 +126,21 @@ module _ {V : Type 0} (entries : V → List Entry) (origin : V → Origin) (star
   abbrev fresh : V → View → View
   fresh x v = holder v (entries x)
 
-  -- a step that changes nothing
+  -- A step that changes nothing.
   unmoved : (s : St) (k : Rule s) (i id : ℕ) (v : View) → get_elem? s.views id ≡ some v → Rule record { words = set s.words i (slice_index s.words i); homes = s.homes; views = set s.views id v }
   unmoved s k i id v at = subst (λ (z : List ℕ × List View). Rule record { words = z.0; homes = s.homes; views = z.1 })
       (λ j. (sym (set-get_or s.words i 0) j, sym (set_again s.views id v at) j)) k
 
-  -- every position up to the length of the history
+  -- Every position up to the length of the history.
   reaches : (log : List Entry) (n m : ℕ) → length log ≡ n → ((p : ℕ) → p < length log → p < m) → length log ≤ m
   reaches log zero m e all_of = omega arith
   reaches log (suc n) m e all_of = let b = all_of n (omega arith) in omega arith
 
-  -- where a seat has all parts no other owns anything
+  -- If a seat has all parts, no other seat owns anything.
   others_idle : (s : St) (k : Rule s) (id : ℕ) (v : View) → get_elem? s.views id ≡ some v → v.parts ≡ 65536 → (j : ℕ) (u : View) → j ≢ id → get_elem? s.views j ≡ some u → (u.own ≡ []) × (u.holds ≡ false)
   others_idle s k id v at all j u apart there = let two = total_two parts_of s.views id j v u apart at there in let e = k.parts in (k.each j u there).idle (omega arith)
 
-  -- so it has seen the whole history
+  -- Such a seat has seen the whole history.
   seen_whole : (s : St) (k : Rule s) (id : ℕ) (v : View) → get_elem? s.views id ≡ some v → v.parts ≡ 65536 → v.seen ≡ k.log
   seen_whole s k id v at all =
       let f = k.each id v at in
@@ -209,7 +209,7 @@ module _ {V : Type 0} (entries : V → List Entry) (origin : V → Origin) (star
   abbrev Row : Type 0
   Row = List (ℕ × Option V)
 
-  -- a longer history, for a view of a seat that doesn't hold the lock
+  -- A longer history, for a view of a seat that doesn't hold the lock.
   fits_longer : (log more : List Entry) (u : View) → u.holds ≡ false → Fits log start u → Fits (log ++ more) start u
   fits_longer log more u off f = record {
     seen = prefix_longer u.seen log more f.seen;
@@ -224,7 +224,7 @@ module _ {V : Type 0} (entries : V → List Entry) (origin : V → Origin) (star
   weighs : (v : View) → v.holds ≡ true → hold_of v ≡ 1
   weighs v on = ap (λ (b : Bool). cond b 1 0) on
 
-  -- while one seat holds the lock, no other does
+  -- While one seat holds the lock, no other seat does.
   others_off : (s : St) (k : Rule s) (id j : ℕ) (v u : View) → j ≢ id → get_elem? s.views id ≡ some v → get_elem? s.views j ≡ some u → v.holds ≡ true → u.holds ≡ false
   others_off s k id j v u apart at there on = go u.holds refl
     where
@@ -513,7 +513,7 @@ module _ {V : Type 0} (entries : V → List Entry) (origin : V → Origin) (star
         (refl, λ le. prefix_of_two v.told v.seen k.log f.told f.seen le),
       )
 
-  -- the rule at the end, where one seat has all parts
+  -- The rule at the end, when one seat has all parts.
   pub close_all : (id : ℕ) (v : View) (ws : List ℕ) (xs : List (Option V)) → v.parts ≡ 65536 → v.holds ≡ false → Final (Seen Rule id v) ws xs
       → (x : V) × (get_elem? xs 0 ≡ some (Some x)) × (entries x ≡ v.seen) × (origin x ≡ v.origin) × ((p : ℕ) → times p v.own ≡ once_below p (length v.seen))
   close_all id v ws xs all off (s, (k, at), words, count, values) =

@@ -21,7 +21,7 @@ other_if : {A : Type 0} (b : Bool) (x y : A) → b ≡ false → (if b then x el
 other_if true x y e = absurd (true≢false e)
 other_if false x y e = refl
 
--- a begin is possible where its number is the next
+-- A begin is possible if its number is the next one.
 begin_next : (w : ℕ) (s : State) (n : ℕ) (name : List Bool) (h : List Entry) → IsLegal w s (Begin n name ∷ h) → n ≡ s.begun + 1
 begin_next w s n name h legal =
     let possible = first_so (is_possible w s (Begin n name)) (is_free s (Begin n name)) (first_so (is_possible w s (Begin n name) && is_free s (Begin n name)) (is_legal_history w (step w s (Begin n name)) h) legal) in
@@ -46,12 +46,12 @@ install_open w s n h legal = first_so (is_possible w s (Install n)) true (first_
 abandon_open : (w : ℕ) (s : State) (n : ℕ) (h : List Entry) → IsLegal w s (Abandon n ∷ h) → is_some (split_name s.splits n) ≡ true
 abandon_open w s n h legal = first_so (is_possible w s (Abandon n)) true (first_so (is_possible w s (Abandon n) && true) (is_legal_history w (step w s (Abandon n)) h) legal)
 
--- nothing stands after a failed append
+-- Nothing follows a failed append.
 no_more : {X : Type 0} (h : List Entry) → is_empty h ≡ true → (q : ℕ) (e : Entry) → slice_get h q ≡ Some e → X
 no_more [] empty q e at = absurd (cc (at))
 no_more (x ∷ h) empty q e at = absurd (true≢false (sym empty))
 
--- the begins of a legal history have numbers above those begun before
+-- The begins of a legal history have numbers above those begun before.
 pub begin_above : (w : ℕ) (s : State) (h : List Entry) → IsLegal w s h → (q n : ℕ) → IsBegin h q n → s.begun < n
 begin_above w s [] legal q n b = absurd (cc (b.1))
 begin_above w s (Call session row op ∷ h) legal zero n b = absurd (cc (b.1))
@@ -70,7 +70,7 @@ begin_above w s (Abandon m ∷ h) legal (suc q) n b = begin_above w (step w s (A
 begin_above w s (Fail cell lost ∷ h) legal zero n b = absurd (cc (b.1))
 begin_above w s (Fail cell lost ∷ h) legal (suc q) n b = no_more h legal q (Begin n b.0) b.1
 
--- no number is begun twice
+-- No number is begun twice.
 pub begin_once : (w : ℕ) (s : State) (h : List Entry) → IsLegal w s h → (n q r : ℕ) → IsBegin h q n → IsBegin h r n → r ≡ q
 begin_once w s [] legal n q r b c = absurd (cc (b.1))
 begin_once w s (e ∷ h) legal n zero zero b c = refl
@@ -98,7 +98,7 @@ begin_once w s (Fail cell lost ∷ h) legal n zero (suc r) b c = absurd (cc (b.1
 begin_once w s (Fail cell lost ∷ h) legal n (suc q) zero b c = absurd (cc (c.1))
 begin_once w s (Fail cell lost ∷ h) legal n (suc q) (suc r) b c = no_more h legal q (Begin n b.0) b.1
 
--- open splits with one more behind them
+-- Open splits, and one more after them.
 split_name-append : (splits : List OpenSplit) (n m : ℕ) (name other : List Bool) → split_name splits n ≡ Some name → split_name (splits ++ record { number = m; name = other } ∷ []) n ≡ Some name
 split_name-append [] n m name other e = absurd (cc (e))
 split_name-append (s ∷ splits) n m name other e = go (split_name-append splits n m name other) (s.number == n) e
@@ -108,7 +108,7 @@ split_name-append (s ∷ splits) n m name other e = go (split_name-append splits
     go more true e = e
     go more false e = more e
 
--- the newest, where no other has its number
+-- The newest split, if no other has its number.
 split_name-newest : (splits : List OpenSplit) (n : ℕ) (name : List Bool) → split_name splits n ≡ None → split_name (splits ++ record { number = n; name = name } ∷ []) n ≡ Some name
 split_name-newest [] n name e = same_if (n == n) (Some name) None (eq-eqb n n refl)
 split_name-newest (s ∷ splits) n name e = go (split_name-newest splits n name) (s.number == n) e
@@ -118,7 +118,7 @@ split_name-newest (s ∷ splits) n name e = go (split_name-newest splits n name)
     go more true e = absurd (cc (e))
     go more false e = more e
 
--- a number that isn't open, with one more of another number
+-- A number that isn't open, and one more split with another number.
 split_name-other : (splits : List OpenSplit) (n m : ℕ) (other : List Bool) → m ≢ n → split_name splits n ≡ None → split_name (splits ++ record { number = m; name = other } ∷ []) n ≡ None
 split_name-other [] n m other apart e = other_if (m == n) (Some other) None (ne_eqb m n apart)
 split_name-other (s ∷ splits) n m other apart e = go (split_name-other splits n m other apart) (s.number == n) e
@@ -128,7 +128,7 @@ split_name-other (s ∷ splits) n m other apart e = go (split_name-other splits 
     go more true e = absurd (cc (e))
     go more false e = more e
 
--- without the splits that a test drops, a number that isn't open still isn't
+-- A number that isn't open still isn't after some splits are removed.
 split_name-none : (keep : OpenSplit → Bool) (splits : List OpenSplit) (n : ℕ) → split_name splits n ≡ None → split_name (filter keep splits) n ≡ None
 split_name-none keep [] n e = refl
 split_name-none keep (s ∷ splits) n e = go (split_name-none keep splits n) (s.number == n) refl (keep s) e
@@ -139,7 +139,7 @@ split_name-none keep (s ∷ splits) n e = go (split_name-none keep splits n) (s.
     go more false is false e = more e
     go more false is true e = other_if (s.number == n) (Some s.name) (split_name (filter keep splits) n) is ∙ more e
 
--- without another number
+-- Without the split of another number.
 split_name-without : (splits : List OpenSplit) (n m : ℕ) (name : List Bool) → m ≢ n → split_name splits n ≡ Some name → split_name (without_number m splits) n ≡ Some name
 split_name-without [] n m name apart e = e
 split_name-without (s ∷ splits) n m name apart e = go (split_name-without splits n m name apart) (s.number == n) refl (s.number == m) refl e
@@ -151,7 +151,7 @@ split_name-without (s ∷ splits) n m name apart e = go (split_name-without spli
     go more false is true drop e = more e
     go more false is false drop e = other_if (s.number == n) (Some s.name) (split_name (without_number m splits) n) is ∙ more e
 
--- without a name that no open split has
+-- Without a name that no open split has.
 without_name-none : (splits : List OpenSplit) (name : List Bool) → not (is_splitting splits name) ≡ true → without_name name splits ≡ splits
 without_name-none [] name free = refl
 without_name-none (s ∷ splits) name free = go (without_name-none splits name) (same_name s.name name) free
@@ -161,7 +161,7 @@ without_name-none (s ∷ splits) name free = go (without_name-none splits name) 
     go more true free = absurd (true≢false (sym free))
     go more false free = ap (λ (l : List OpenSplit). s ∷ l) (more free)
 
--- no open split has a number above those begun
+-- No open split has a number above those begun.
 abbrev pub Numbered : State → Type 0
 Numbered s = (n : ℕ) → s.begun < n → split_name s.splits n ≡ None
 
@@ -172,7 +172,7 @@ begin_numbered w s m name next numbered n above =
 end_numbered : (s : State) (m : ℕ) → Numbered s → (n : ℕ) → s.begun < n → split_name (without_number m s.splits) n ≡ None
 end_numbered s m numbered n above = split_name-none (λ o. not (o.number == m)) s.splits n (numbered n above)
 
--- a split that is open stays open through a legal history without an end of it
+-- A split that is open stays open through a legal history that doesn't end it.
 pub open_stays : (w : ℕ) (s : State) (h : List Entry) → IsLegal w s h → (n : ℕ) (name : List Bool) → split_name s.splits n ≡ Some name
     → ((p : ℕ) → ¬ IsEnd h p n) → split_name (state_after w s h).splits n ≡ Some name
 open_stays w s [] legal n name is none = is
@@ -190,7 +190,7 @@ open_stays w s (Abandon m ∷ h) legal n name is none =
 open_stays w s (Fail cell lost ∷ []) legal n name is none = is
 open_stays w s (Fail cell lost ∷ e ∷ h) legal n name is none = absurd (true≢false (sym legal))
 
--- a split that a legal history began and didn't end is open after it, by its name
+-- A split that a legal history began and didn't end is open after it, under its name.
 pub begun_open : (w : ℕ) (s : State) (h : List Entry) → IsLegal w s h → Numbered s → (q n : ℕ) (name : List Bool) → slice_get h q ≡ Some (Begin n name)
     → ((p : ℕ) → ¬ IsEnd h p n) → split_name (state_after w s h).splits n ≡ Some name
 begun_open w s [] legal numbered q n name at none = absurd (cc (at))
@@ -219,7 +219,7 @@ begun_open w s (Fail cell lost ∷ h) legal numbered (suc q) n name at none = no
 is_none : {A : Type 0} (o : Option A) → o ≡ None → is_some o ≡ true → (X : Type 0) → X
 is_none o none some X = absurd (true≢false (sym some ∙ ap is_some none))
 
--- an end of a split that wasn't open at first has an earlier begin
+-- An end of a split that wasn't open at first has an earlier begin.
 pub end_begun : (w : ℕ) (s : State) (h : List Entry) → IsLegal w s h → (n p : ℕ) → split_name s.splits n ≡ None → IsEnd h p n → (q : ℕ) × (q < p) × IsBegin h q n
 end_begun w s [] legal n p none end = absurd (cc (end.1))
 end_begun w s (Call session row op ∷ h) legal n zero none (e, at, is) = ⊎_elim (λ i. absurd (cc (at, i))) (λ i. absurd (cc (at, i))) is

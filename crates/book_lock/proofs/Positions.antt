@@ -41,7 +41,7 @@ pub times-merge : (p : ℕ) (xs ys : List ℕ) → times p (merge xs ys) ≡ tim
 times-merge p [] ys = omega arith
 times-merge p (x ∷ xs) ys = let h = times-merge p xs ys in let e = times-insert p x (merge xs ys) in omega arith
 
--- who owns a position of x ∷ xs
+-- An owned position of `x ∷ xs` is `x`, or is in `xs`.
 pub owns_cons : (x p : ℕ) (xs : List ℕ) → Owns (x ∷ xs) p → (x ≡ p) ⊎ Owns xs p
 owns_cons x p xs h = dite (ℕ_discrete x p) (λ e. inl e) (λ n. let o = one_other x p n in inr (omega arith))
 

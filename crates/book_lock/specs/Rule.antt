@@ -1,5 +1,5 @@
--- The rule of the lock. Word 0 is only loaded, word 1 is 1 while a seat holds the lock and else 0, and word 2 counts the entries of the
--- history. Slot 0 has the value.
+-- The rule of the lock. Word 0 is only loaded. Word 1 is 1 while a seat holds the lock and otherwise 0. Word 2 counts
+-- the entries of the history. Slot 0 has the value.
 use Rattle.std.specs.Prelude.{◌≡◌, ◌⊎◌, ℕ, ◌+◌, ◌-◌, ◌<◌, ◌≤◌, List, [], ◌∷◌, length, slice_index, Option, Some, None, Bool, true, false, if◌then◌else◌}
 use mathlib.Core.Option.{some}
 use mathlib.Core.List.{IsPrefix}
@@ -14,12 +14,12 @@ use Rattle.book_lock.specs.Ends.{IsBegin, IsEnd, longer, shorter}
 abbrev pub seat_view : List Entry → List Entry → List ℕ → Origin → ℕ → Bool → View
 seat_view seen told own origin parts holds = record { seen = seen; told = told; own = own; origin = origin; parts = parts; holds = holds }
 
--- f of each view, added up
+-- The sum of `f` over all views.
 abbrev pub total : (View → ℕ) → List View → ℕ
 total f [] = 0
 total f (v ∷ vs) = f v + total f vs
 
--- 1 where the seat holds the lock
+-- 1 if the seat holds the lock, otherwise 0.
 abbrev pub hold_of : View → ℕ
 hold_of v = if v.holds then 1 else 0
 
@@ -29,25 +29,26 @@ parts_of v = v.parts
 abbrev pub times_of : ℕ → View → ℕ
 times_of p v = times p v.own
 
--- the parts of a lock: nobody else can add to the history while a pass has all of them
+-- The number of parts of a lock. While a pass has all of them, no other pass can add to the history.
 abbrev pub all_parts : ℕ
 all_parts = 65536
 
--- the view of the first seat
+-- The view of the first seat.
 abbrev pub newcomer : Origin → View
 newcomer origin = seat_view [] [] [] origin all_parts false
 
--- of no value
+-- The origin of no value.
 abbrev pub no_origin : Origin
 no_origin = record { world = []; leaves = []; begun = 0; log = None; bucket = 0 }
 
--- a seat that another took in
+-- A seat that was joined to another one.
 abbrev pub spent : View
 spent = seat_view [] [] [] no_origin 0 false
 
--- what the rule says of one view of a history and an origin: what it has seen and was told are beginnings of the history; its own
--- positions rise and were seen; it is of the origin, unless another took it in; who holds the lock has seen the whole history; who has no part
--- owns nothing and doesn't hold the lock
+-- What the rule says of one view of a history and an origin. What the view has seen, and what was passed on to it, are
+-- prefixes of the history. Its own positions rise, and it has seen them. Its origin is this one, unless the seat was
+-- joined to another one. A seat that holds the lock has seen the whole history. A seat without a part owns nothing and
+-- doesn't hold the lock.
 pub record Fits (log : List Entry) (start : Origin) (v : View) : Type 0 where
   pub seen : IsPrefix v.seen log
   pub told : IsPrefix v.told log
@@ -57,11 +58,11 @@ pub record Fits (log : List Entry) (start : Origin) (v : View) : Type 0 where
   pub whole : v.holds ≡ true → v.seen ≡ log
   pub idle : v.parts ≡ 0 → (v.own ≡ []) × (v.holds ≡ false)
 
--- some seat owns this end of a split, and an earlier Begin of it
+-- Some seat owns this end of a split, and an earlier begin of it.
 abbrev pub HasEnder : List View → List Entry → ℕ → ℕ → Type 0
 HasEnder views log p n = (id q : ℕ) × (v : View) × (get_elem? views id ≡ some v) × Owns v.own p × Owns v.own q × (q < p) × IsBegin log q n
 
--- what a value's entries and origin, the words and the views of all seats have to do with one history
+-- How a value's entries and origin, the words, and the views of all seats relate to one history.
 pub record LockRule {V : Type 0} (entries : V → List Entry) (origin : V → Origin) (start : Origin) (s : State (Option V) View) : Type 0 where
   pub log : List Entry
   pub wide : length s.words ≡ 3
@@ -74,19 +75,20 @@ pub record LockRule {V : Type 0} (entries : V → List Entry) (origin : V → Or
   pub home : slice_index s.words 1 ≡ 0 → (x : V) × (s.homes ≡ some (Some x) ∷ []) × (entries x ≡ log) × (origin x ≡ start)
   pub ended : (p n : ℕ) → IsEnd log p n → HasEnder s.views log p n
 
--- a seat without so many of its parts
+-- A seat without `n` of its parts.
 abbrev pub without_parts : ℕ → View → View
 without_parts n v = seat_view v.seen v.told v.own v.origin (v.parts - n) v.holds
 
--- a new seat that has these parts, and has seen the same
+-- A new seat that has `n` parts and has seen the same.
 abbrev pub parts_from : ℕ → View → View
 parts_from n v = seat_view v.seen [] [] v.origin n false
 
--- a new seat that has seen the same, without a part
+-- A new seat that has seen the same, without a part.
 abbrev pub note_of : View → View
 note_of v = seat_view v.seen [] [] v.origin 0 false
 
--- what a seat knows that takes in another: the longer of what both have seen, and the shorter as told
+-- What a seat knows after another one was joined to it: the longer of what both have seen. The shorter is what was
+-- passed on.
 abbrev pub both : View → View → View
 both v w = seat_view (longer v.seen w.seen) (shorter v.seen w.seen) (merge w.own v.own) v.origin (v.parts + w.parts) v.holds
 

@@ -1,4 +1,4 @@
-//! What the lock asks of its value.
+//! What the lock requires of its value.
 ghost use Rattle.std.specs.Prelude.{◌≡◌, List, length};
 ghost use Rattle.plain_list.specs.declared.entries.Entry.{Entry};
 ghost use Rattle.book_lock.specs.Origin.{Origin};
@@ -8,15 +8,15 @@ pub trait Held {
     /// Its entries since it began.
     ghost entries: { Self → List Entry };
 
-    /// What it began from, which no step changes.
+    /// What it began from. No step changes it.
     ghost origin: { Self → Origin };
 
-    /// How many entries it has.
+    /// The number of its entries.
     fn events(&self) -> u64
         ensures { result ≡ length (entries self.now) };
 
-    /// Whether its steps may take long, as over the sync of a file. It is asked once, when the lock is made: who waits for a slow
-    /// value sleeps until it is woken, and who waits for a quick one naps.
+    /// Whether a step may take long, for example because it syncs a file. The lock calls this once, when it is created.
+    /// A caller that waits for a slow value sleeps until it is woken. For a quick value a caller of a batch naps.
     fn is_slow(&self) -> bool {
         true
     }

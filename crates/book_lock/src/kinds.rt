@@ -16,14 +16,14 @@ impl<V: Held> TableRule<Option<V>, View, Snapshot<V>> for Law {
     ghost first = { λ key. newcomer (V.origin key.value) };
 }
 
-/// The lock is taken, where it was free.
+/// A seat takes the lock, if the lock was free.
 pub struct Take;
 
 impl<V: Held> Play<Option<V>, View> for Take {
     ghost then = { taken V.entries V.origin };
 }
 
-/// The entry that a step adds. Each call of `note` picks it.
+/// The entry that a step adds. Each call of `note` chooses it.
 pub trait Noting {
     ghost use Rattle.plain_list.specs.declared.entries.Entry.{Entry};
 
@@ -59,7 +59,7 @@ impl<V> Play<Option<V>, View> for Compare {
     ghost then = { compared };
 }
 
-/// The parts of a seat that is cut off. Each call of `split_parts` picks how many.
+/// The parts of a seat that is split off. Each call of `split_parts` chooses how many.
 pub trait Sharing {
     ghost use Rattle.std.specs.Prelude.{ℕ};
 
@@ -70,7 +70,7 @@ impl Sharing for Brand {
     ghost parts = { 1 };
 }
 
-/// A seat with some of the parts is cut off.
+/// A seat with some of the parts is split off.
 pub struct Cut<J> {
     parts: PhantomData<J>,
 }
@@ -81,7 +81,7 @@ impl<J: Sharing> Split<View> for Cut<J> {
     ghost right = { parts_from J.parts };
 }
 
-/// A seat without a part, which tells what was seen.
+/// A seat without a part, which carries what was seen.
 pub struct Copy;
 
 impl Split<View> for Copy {

@@ -1,4 +1,4 @@
-//! The lock: how it is made and closed.
+//! The lock: how it is created and closed.
 ghost use Rattle.std.specs.Prelude.{◌≡◌, ℕ, false, [], ◌∷◌, length, IfOk, IfErr, MatchResult, Some};
 ghost use Rattle.book_lock.specs.Own.{times, once_below};
 ghost use Rattle.book_lock.specs.Rule.{all_parts};
@@ -20,13 +20,13 @@ mod waiting;
 
 use waiters::Waiters;
 
-/// Guards one value. Contracts see which lock it is, so that a pass can be known to be of it.
+/// Guards one value. Contracts see which lock it is, so that they can say that a pass belongs to it.
 ///
-/// Word 0 of its table is never changed, word 1 is 1 while the lock is taken, word 2 counts the entries of the history,
-/// and the one slot has the value.
+/// Word 0 of its table never changes, word 1 is 1 while a caller holds the lock, and word 2 counts the entries of the
+/// history. The one slot has the value.
 pub struct BookLock<V: Held> {
     table: Table<Option<V>, View, Snapshot<V>, Law, Global>,
-    /// Who waits for it.
+    /// The callers that wait for the lock.
     waiters: Waiters,
     /// Whether a step may take long.
     is_slow: bool,
@@ -76,8 +76,8 @@ fn unshelf<V>(mut slots: Vec<Option<V>>) -> V
 }
 
 impl<V: Held> BookLock<V> {
-    /// A lock around a value that has no entries yet, and the pass that has all parts of it. For want of memory the
-    /// value comes back.
+    /// A lock around a value that has no entries yet, and the pass that has all parts of it. If memory runs out, the
+    /// call returns the value.
     pub fn new(alloc: Global, value: V) -> Result<(BookLock<V>, Pass<V>), V>
         requires { V.entries value ≡ [] }
         ensures lock { IfOk result (λ r. r.1 ≡ record { lock = r.0; seen = []; own = []; origin = V.origin value; parts = all_parts; holds = false }) }
@@ -102,7 +102,8 @@ impl<V: Held> BookLock<V> {
         }
     }
 
-    /// Ends the lock, and gives the value. A pass has all parts once each other one was joined to it.
+    /// Ends the lock, and returns the value. It requires a pass with all parts, so each other pass must have been
+    /// joined to it.
     pub fn close(self, pass: Pass<V>) -> V
         requires lock { pass.lock ≡ self }
         requires off { pass.holds ≡ false }

@@ -3,9 +3,9 @@
 /// How the owner of a pass waits for the lock. No contract depends on it.
 #[derive(Clone, Copy)]
 pub(crate) struct Manner {
-    /// Whether it is one of a batch, and naps. Others are prompt.
+    /// Whether the caller is one of a batch, and naps. Others are prompt.
     pub is_batch: bool,
-    /// Whether it only looks at the value next.
+    /// Whether its next call only reads the value.
     pub is_reader: bool,
     /// How often it has had the lock since it last waited for it.
     pub turns: u32,

@@ -1,16 +1,16 @@
-//! What a value behind the lock began from.
+//! What a value in the lock began from.
 use plain_list::Member;
 use std::collections::LinkedList;
 use zorder::Name;
 
-/// No value of it is made: contracts alone speak of it, so that whoever closes a lock knows that the value is still of
-/// the beginning that it had when it was put in.
+/// Contracts alone use this type, and no value of it is ever created. A caller that closes a lock then knows that the
+/// value still has the beginning with which it was put in.
 pub struct Origin {
     pub world: LinkedList<Member>,
     pub leaves: LinkedList<Name>,
-    /// How many splits had been begun.
+    /// The number of splits that had been begun.
     pub begun: u64,
-    /// Its log, where there is one.
+    /// Its log, if there is one.
     pub log: Option<LogStart>,
     /// The size of a bucket.
     pub bucket: u64,
@@ -18,9 +18,9 @@ pub struct Origin {
 
 /// A log as it was opened.
 pub struct LogStart {
-    /// How many cells it had.
+    /// The number of its cells.
     pub cells: u64,
-    /// Its bytes, where its drive tells them.
+    /// Its bytes, if its drive's content is known.
     pub bytes: Option<LinkedList<u8>>,
     /// The clock of its drive.
     pub clock: u64,

@@ -6,8 +6,8 @@ use crate::view::View;
 use atomic_table::Seat;
 use std::marker::Model;
 
-/// A witness that its owner may call the lock. It keeps a beginning of the history that was seen, and knows which of
-/// its entries are its own. It has to be joined to another or closed with the lock, and can't be dropped.
+/// The right of its owner to call the lock. It keeps the part of the history that was seen, and knows which of those
+/// entries are its own. A pass must be joined to another one, or closed with the lock. It can't be dropped.
 pub struct Pass<V> {
     pub(crate) seat: Seat<Option<V>, View>,
     /// How its owner waits.
@@ -26,16 +26,17 @@ impl<V> Model for Pass<V> {
 }
 
 impl<V> Pass<V> {
-    /// Says whether the next caller only looks at the value. Of a batch, one that is to change it waits longer before it tries again,
-    /// since each processor that changes the value has to fetch it first.
+    /// Says whether the owner's next call only reads the value. In a batch, a caller that is to change the value waits
+    /// longer before it tries again, because each processor that changes the value has to fetch it first.
     pub fn will_read(&mut self, is_reader: bool)
         ensures { self.new ≡ self.old }
     {
         self.manner.is_reader = is_reader;
     }
 
-    /// Says whether its owner is one of a batch. Such a one naps where the lock is taken, for some milliseconds at a time, so that the
-    /// value stays with the processor that has it. Others, as a new pass, are prompt: they sleep until they are woken, and are let in.
+    /// Says whether the owner is one of a batch. If the lock is taken, such a caller naps for some milliseconds at a
+    /// time, so that the value stays with the processor that has it. Other callers are prompt: they sleep until they
+    /// are woken, and are let in. A new pass is prompt.
     pub fn in_batch(&mut self, is_batch: bool)
         ensures { self.new ≡ self.old }
     {

@@ -1,4 +1,4 @@
-//! A lock may be shared by threads and sent between them, and so may a pass be sent, where the value may be sent.
+//! If its value may be sent, a lock may be shared by threads and sent between them, and a pass may be sent.
 use crate::held::Held;
 use crate::lock::BookLock;
 use crate::pass::Pass;

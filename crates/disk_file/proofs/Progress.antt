@@ -6,12 +6,12 @@ use Rattle.std.proofs.KnownBytes.{Appends-trans, Consumes-trans}
 use borrow.Rule.Slice.PartMut.{put_mid}
 use Rattle.std.specs.Io.KnownBytes.{Appends, Consumes}
 
--- a read that has filled the first `at` bytes of its room
+-- A read that has filled the first `at` bytes of its room.
 pub record HasFilled (old now : Option (List ℕ)) (into : List ℕ) (at : ℕ) : Type 0 where
   pub within : at ≤ length into
   pub taken : Consumes old now (take at into)
 
--- the reader gave the first n bytes of a piece that stands behind them
+-- The reader gave the first `n` bytes of the piece after these.
 pub HasFilled-more : {old now new : Option (List ℕ)} (into piece : List ℕ) (at n : ℕ) → HasFilled old now into at
     → n ≤ length piece → Consumes now new (take n piece) → HasFilled old new (put_mid at (length into - at) into piece) (at + n)
 HasFilled-more {old = old} {now = now} {new = new} into piece at n filled within consumed =
@@ -33,12 +33,12 @@ HasFilled-more {old = old} {now = now} {new = new} into piece at n filled within
       taken = subst P (sym joined) (Consumes-trans old now new front (take n piece) filled.taken consumed);
     }
 
--- a put that has passed on the first `at` bytes of its piece
+-- A write that has passed on the first `at` bytes of its piece.
 pub record HasPut (old now : Option (List ℕ)) (piece : List ℕ) (at : ℕ) : Type 0 where
   pub within : at ≤ length piece
   pub taken : Appends old now (take at piece)
 
--- the writer took the first n bytes of the rest
+-- The writer accepted the first `n` bytes of the rest.
 pub HasPut-more : {old now new : Option (List ℕ)} {piece : List ℕ} {at : ℕ} (n : ℕ) (rest : List ℕ) → HasPut old now piece at
     → rest ≡ take (length piece - at) (drop at piece) → n ≤ length rest → Appends now new (take n rest) → HasPut old new piece (at + n)
 HasPut-more {old = old} {now = now} {new = new} {piece = piece} {at = at} n rest put rest_is within appended =

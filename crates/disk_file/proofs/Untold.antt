@@ -1,4 +1,4 @@
--- A drive of which nothing is known meets what the trait says of each call.
+-- A drive whose content is unknown keeps what the trait says of each call.
 use Rattle.std.proofs.Common.{ℕ, List, Ok, Err, Result, refl, inl, arith, length}
 use Rattle.disk_trait.proofs.Itself.{torn_itself, shortened_itself}
 use Rattle.disk_trait.specs.Drive.{Elapses, Writes, Cuts, Syncs}

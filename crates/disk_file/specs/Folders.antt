@@ -1,8 +1,8 @@
--- The folder in which a file's name is.
+-- The folder of a file's name.
 use Rattle.std.specs.Prelude.{ℕ, List, [], ◌∷◌, length, ◌==◌, if◌then◌else◌, Option, Some, None}
 use Rattle.std.specs.Path.{dot, path_parent}
 
--- the one in which the program runs, where the name has no other
+-- If the name has no folder, it is the one in which the program runs.
 abbrev pub folder_or_here : Option (List ℕ) → List ℕ
 folder_or_here None = dot ∷ []
 folder_or_here (Some folder) = if length folder == 0 then dot ∷ [] else folder

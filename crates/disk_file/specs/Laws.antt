@@ -1,4 +1,4 @@
--- The laws of a drive hold of one of which nothing is known.
+-- A drive whose content is unknown keeps the laws of a drive.
 use Rattle.disk_trait.specs.Drive.{KeepsLaws}
 use Rattle.disk_file.specs.Served.{FileView, file_drive}
 

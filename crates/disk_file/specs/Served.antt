@@ -5,33 +5,34 @@ use Rattle.disk_trait.specs.Drive.{Drive}
 use Rattle.disk_trait.specs.declared.disk.AttachFault.{AttachFault}
 use Rattle.disk_trait.specs.declared.disk.AttachFault.TheVariants.{Disk, Memory}
 
--- whether it has a file, and how often a call has failed
+-- Whether the drive has a file, and how often a call has failed.
 pub record FileView : Type 0 where
   pub attached : Bool
   pub faults : ℕ
 
--- Nothing is known of the content, no bytes, and any image at any moment, and no list of calls or attaches is kept.
+-- Nothing is known of the content. The bytes are unknown, a crash may leave any image at any moment, and no list of
+-- calls or attaches is kept.
 abbrev pub untold : ℕ → Drive
 untold faults = record { bytes = None; images = λ c. Unit {0}; clock = 0; since = λ t c. Unit {0}; faults = faults; calls = None; attaches = None }
 
 abbrev pub file_drive : FileView → Drive
 file_drive d = untold d.faults
 
--- a step leaves all as it was but the count, which rises exactly where it failed
+-- A step changes nothing but the fault count, which rises if and only if the step failed.
 abbrev pub Counted : {T E : Type 0} → FileView → FileView → Result T E → Type 0
 Counted old new result = new ≡ record { attached = old.attached; faults = if is_ok result then old.faults else one_more old.faults }
 
--- a call that needs a file fails without one
+-- A call that needs a file fails if there is none.
 pub record Serves {T E : Type 0} (old new : FileView) (result : Result T E) : Type 0 where
   pub needs : old.attached ≡ false → IsErr result
   pub after : Counted old new result
 
--- want of memory raises no count
+-- A lack of memory doesn't raise the fault count.
 abbrev pub after_fault : AttachFault → ℕ → ℕ
 after_fault Disk faults = one_more faults
 after_fault Memory faults = faults
 
--- an attach gives the drive a file, or leaves it the one that it had
+-- An attach gives the drive a file. If it fails, the drive keeps the file that it had.
 abbrev pub Attaches : {T : Type 0} → FileView → FileView → Result T AttachFault → Type 0
 Attaches old new result = MatchResult result
     (λ _. new ≡ record { attached = true; faults = old.faults })

@@ -3,6 +3,6 @@ use Rattle.std.specs.Prelude.{◌≡◌, ◌⊎◌}
 use Rattle.std.specs.declared.io.ErrorKind.{ErrorKind}
 use Rattle.std.specs.declared.io.ErrorKind.TheVariants.{Unsupported, InvalidInput}
 
--- the kinds of error that say so, and no other
+-- The kinds of error that report this. No other kind does.
 abbrev pub IsUnsupported : ErrorKind → Type 0
 IsUnsupported kind = (kind ≡ Unsupported) ⊎ (kind ≡ InvalidInput)

@@ -9,8 +9,8 @@ use std::alloc::Global;
 use std::fs::Files;
 use std::marker::Model;
 
-/// A drive whose file `R` opens. It has none until an attach has answered Ok, and keeps the one that it has where a later
-/// attach fails.
+/// A drive whose file `R` opens. It has no file until an attach returns `Ok`. If a later attach fails, it keeps the
+/// file that it has.
 #[derive(Drop)]
 pub struct FileDisk<R: Files + Drop> {
     rt: R,
@@ -42,7 +42,7 @@ impl<R: Files + Drop> FileDisk<R> {
         }
     }
 
-    /// Raises the count where a step failed.
+    /// Raises the fault count if a step failed. The count stops at `2^64 - 1`.
     fn counted<T>(&mut self, step: Result<T, DiskFault>) -> Result<T, DiskFault>
         ensures same { result ≡ step }
         ensures after { Counted self.old self.new step }

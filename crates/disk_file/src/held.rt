@@ -11,14 +11,15 @@ use disk_trait::DiskFault;
 use std::fs::OpenFile;
 use std::io::{self, Read, Seek, Write};
 
-/// A file that other opens may read too, until the first call that changes or syncs it: from then on no other open gets a lock.
+/// A file that other opens may read too, until the first call that changes or syncs it. From then on no other open gets
+/// a lock.
 #[derive(Drop)]
 pub struct HeldFile<F: Drop> {
     file: F,
     is_alone: bool,
 }
 
-// Where the system has no locks for a file, nobody is in the way.
+// If the system has no locks for a file, no other open is in the way.
 fn lock_for<F: LockFile>(file: &F, hold: Hold) -> io::Result<()> {
     or_unsupported(file.try_hold(hold))
 }
@@ -33,7 +34,7 @@ fn told<T>(answer: io::Result<T>) -> Result<T, DiskFault>
 }
 
 impl<F: LockFile + Drop> HeldFile<F> {
-    /// Locks a file beside others that read it.
+    /// Locks a file for reading. Other opens may lock it for reading too.
     pub fn shared(file: F) -> io::Result<HeldFile<F>>
         ensures { IfOk result (λ held. held ≡ record { file = file; is_alone = false }) }
     {
@@ -44,7 +45,7 @@ impl<F: LockFile + Drop> HeldFile<F> {
         })
     }
 
-    // Locks it alone, where it isn't yet.
+    // Locks the file for this open alone, unless it has that lock already.
     fn hold_alone(&mut self) -> Result<(), DiskFault>
         ensures held { MatchResult result (λ _. self.new ≡ record { file = self.old.file; is_alone = true }) (λ _. self.new ≡ self.old) }
     {
@@ -57,12 +58,12 @@ impl<F: LockFile + Drop> HeldFile<F> {
 }
 
 impl<F: LockFile + Read + Write + Seek + OpenFile + Drop> HeldFile<F> {
-    /// How many bytes it has.
+    /// The length of the file in bytes.
     pub fn len(&self) -> Result<u64, DiskFault> {
         told(self.file.metadata()).map(|found| found.len())
     }
 
-    /// Reads what lies in it from a place on, up to the room for it.
+    /// Reads the bytes from a place on, as many as `into` has room for.
     pub fn read(&mut self, at: u64, into: &mut [u8]) -> Result<usize, DiskFault>
         ensures lock { self.new.is_alone ≡ self.old.is_alone }
         ensures bound { IfOk result (λ n. n ≤ length into.new) }
@@ -81,7 +82,7 @@ impl<F: LockFile + Read + Write + Seek + OpenFile + Drop> HeldFile<F> {
         write_to(&mut self.file, at, piece)
     }
 
-    /// Cuts it to a length, or makes it longer.
+    /// Cuts the file to a length, or extends it.
     pub fn cut(&mut self, len: u64) -> Result<(), DiskFault>
         ensures lock { IsAloneOrKept self.old self.new result }
     {
@@ -89,7 +90,7 @@ impl<F: LockFile + Read + Write + Seek + OpenFile + Drop> HeldFile<F> {
         told(self.file.set_len(len))
     }
 
-    /// Has the bytes and the length on the disk; the times of the file aren't waited for.
+    /// Waits until the bytes and the length are on the disk. It doesn't wait for the times of the file.
     pub fn sync(&mut self) -> Result<(), DiskFault>
         ensures lock { IsAloneOrKept self.old self.new result }
     {

@@ -1,10 +1,10 @@
-//! A log's device over a file of the machine: the trusted edge, where calls of the system are made.
+//! A log's device over a file of the machine. This is the trusted edge, which makes the calls of the system.
 //!
-//! Contracts see a `FileDisk` as whether it has a file and how often it has failed. It is a `LogDisk` that tells nothing
-//! of its content: no contract can say what a file gives or takes. Each call that fails raises the count, a call without
-//! a file among them, and no other call changes it.
+//! Contracts see a `FileDisk` as whether it has a file, and how often it has failed. It is a `LogDisk` whose content is
+//! unknown: no contract can say what bytes a file returns or accepts. Each call that fails raises the fault count, and
+//! so does a call without a file. No other call changes the count.
 //!
-//! Not here: what a log writes (`split_log`), and that a real file keeps the crash model of `disk_trait`.
+//! Not here: what a log writes (`split_log`), and whether a real file keeps the crash model of `disk_trait`.
 #![tactic(auto)]
 
 mod disk;

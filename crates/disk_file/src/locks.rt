@@ -1,18 +1,20 @@
-//! Locks on a file: many opens that read it, or one that writes. The system keeps them, and lets go of one where its open ends, also by a kill.
+//! Locks on a file: many opens that read it, or one that writes. The system keeps the locks. It releases a lock when
+//! its open ends, also when the process is killed.
 use std::fs::File;
 use std::io;
 
-/// Who else may have a file: others that read it too, or nobody.
+/// Which other opens may lock a file: those that read it too (`Shared`), or none (`Alone`).
 #[derive(Clone, Copy, Debug, PartialEq, Eq)]
 pub enum Hold {
     Shared,
     Alone,
 }
 
-/// A file that can be locked for its open.
+/// A file that its open can lock.
 pub trait LockFile {
-    /// Takes the lock, or changes the one that this open has, without waiting. Where another open has one in the way the error is
-    /// `WouldBlock`, and where the file can't be locked `Unsupported` or `InvalidInput`. After an error this open has none.
+    /// Locks the file, or changes the lock that this open has, without waiting. The error is `WouldBlock` if another
+    /// open's lock is in the way, and `Unsupported` or `InvalidInput` if the file can't be locked. After an error this
+    /// open has no lock.
     fn try_hold(&self, hold: Hold) -> io::Result<()>;
 }
 

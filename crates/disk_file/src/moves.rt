@@ -1,4 +1,4 @@
-//! Reads and writes that go on after short ones.
+//! Reads and writes that continue after short ones.
 ghost use Rattle.std.specs.Prelude.{◌≤◌, ◌<◌, length, take, IfOk, OnOk};
 ghost use Rattle.std.specs.Io.KnownBytes.{Appends, Consumes, IsAtEnd};
 ghost use Rattle.std.specs.Io.Seek.{MovesTo};
@@ -7,7 +7,7 @@ ghost use Rattle.disk_file.specs.Moves.{GivesFrom, PutsAt};
 use disk_trait::DiskFault;
 use std::io::{Read, Seek, SeekFrom, Write};
 
-/// Fills `into` from where the reader stands, or up to its end, and says how many bytes came.
+/// Fills `into` from the reader's position on, up to its end, and returns the number of bytes.
 fn fill<F: Read>(file: &mut F, into: &mut [u8]) -> Result<usize, DiskFault>
     ensures bound { IfOk result (λ n. n ≤ length into.new) }
     ensures bytes { IfOk result (λ n. Consumes (F.remaining file.old) (F.remaining file.new) (take n into.new)) }
@@ -24,7 +24,7 @@ fn fill<F: Read>(file: &mut F, into: &mut [u8]) -> Result<usize, DiskFault>
     Ok(at)
 }
 
-/// Passes on the whole piece. A write that takes nothing is a failure.
+/// Writes the whole piece. A write that accepts no byte is a failure.
 fn put_all<F: Write>(file: &mut F, piece: &[u8]) -> Result<(), DiskFault>
     ensures bytes { OnOk result (Appends (F.contents file.old) (F.contents file.new) piece.now) }
 {
@@ -48,7 +48,7 @@ fn seek_to<F: Seek>(file: &mut F, at: u64) -> Result<(), DiskFault>
     }
 }
 
-/// Reads what lies in a file from a place on, up to the room for it.
+/// Reads the bytes of a file from a place on, as many as `into` has room for.
 pub fn read_from<F: Read + Seek>(file: &mut F, at: u64, into: &mut [u8]) -> Result<usize, DiskFault>
     ensures bound { IfOk result (λ n. n ≤ length into.new) }
     ensures end { IfOk result (λ n. n < length into.new → IsAtEnd (F.remaining file.new)) }

@@ -12,7 +12,7 @@ use std::fs::{Files, OpenFile, OpenOptions};
 use std::io::{self, ErrorKind};
 use std::path::Path;
 
-/// For reading and writing, and made where `make` is true.
+/// Options for reading and writing. The file is created if `make` is true and there is none.
 fn options(make: bool) -> OpenOptions
     ensures { result ≡ with_create (with_write (with_read new_options true) true) make }
 {
@@ -21,7 +21,7 @@ fn options(make: bool) -> OpenOptions
     options
 }
 
-/// The folder in which a file's name is: what comes before the last slash, or the folder that the program runs in.
+/// The folder of a file's name: the part before the last slash, or the folder that the program runs in.
 fn folder_of(name: &str) -> &str
     ensures { result.now ≡ folder_of name.now }
 {
@@ -31,7 +31,8 @@ fn folder_of(name: &str) -> &str
     }
 }
 
-/// Has the name of a file on the disk. Until then a crash may leave a new file under no name, whatever was synced of its bytes.
+/// Waits until the name of a file is on the disk. Until then a crash may leave a new file under no name, whatever bytes
+/// were synced.
 fn sync_folder<R: Files>(rt: &R, name: &str) -> io::Result<()> {
     let mut options = OpenOptions::new();
     options.read(true);
@@ -39,8 +40,8 @@ fn sync_folder<R: Files>(rt: &R, name: &str) -> io::Result<()> {
     or_unsupported(folder.sync_all())
 }
 
-/// A program may be started with a standard stream closed, and the system then opens the file under that stream's number: what
-/// is meant for the stream would land in the file. A second handle never has one of these three numbers.
+/// If a program starts with a standard stream closed, the system opens the file under that stream's number. Then output
+/// for the stream would go into the file. A second handle never has one of these three numbers.
 fn open_apart<R: Files>(rt: &R, name: &str, make: bool) -> io::Result<R::File> {
     let first = options(make).open(rt, name)?;
     if make {
@@ -58,8 +59,8 @@ fn cause(error: &io::Error) -> AttachFault
     }
 }
 
-/// Opens the file of a name, and makes it where it isn't there and `make` is true: then its folder is synced too. It is locked beside others
-/// that read it.
+/// Opens the file of a name and locks it for reading. If `make` is true and there is no file, the call creates one, and
+/// it syncs the folder.
 pub fn opened<R: Files>(rt: &R, name: &str, make: bool) -> Result<HeldFile<R::File>, AttachFault>
 where
     R::File: LockFile,

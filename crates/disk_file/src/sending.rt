@@ -1,4 +1,4 @@
-//! A drive may be sent between threads where what opens its file may, and the file too.
+//! A drive may be sent to another thread if its opener `R` and its file may.
 use crate::disk::FileDisk;
 use std::fs::Files;
 

@@ -1,11 +1,12 @@
-//! What the system can't do for some files, as those of a network: to lock one, or to sync a folder.
+//! What the system can't do for some files, such as those on a network: lock one, or sync a folder.
 ghost use Rattle.std.specs.Prelude.{◌≡◌, ◌↔◌, Err, IsTrue, IsOk, MatchResult};
 ghost use Rattle.std.specs.IoError.{error_kind};
 ghost use Rattle.disk_file.specs.System.{IsUnsupported};
 
 use std::io::{self, ErrorKind};
 
-/// An answer of the system. That it can't do what was asked is no failure, and every other error is.
+/// The result of a call of the system. An error that says that the system can't do this counts as success. Every other
+/// error stays.
 pub fn or_unsupported(answer: io::Result<()>) -> io::Result<()>
     ensures { MatchResult answer (λ _. IsOk result) (λ error.
         (IsUnsupported (error_kind error) → IsOk result) × ((IsUnsupported (error_kind error) → ⊥) → result ≡ Err error)) }

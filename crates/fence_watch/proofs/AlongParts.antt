@@ -11,7 +11,7 @@ use Rattle.fence_watch.specs.Passages.{along, turn, turns, turns_in, word_turns,
 use Rattle.fence_watch.proofs.MarkLemmas.{length-word}
 use Rattle.fence_watch.specs.Counts.{fences_counted, count_by, counted_by, counted_in, said_by, said_in}
 
--- how the fences of each part are crossed
+-- How the fences of each part are crossed.
 pub near-turns : (n : ℕ) (p : Pair) (passage whole : List Pair) → whole ≡ p ∷ passage → n ≡ 64 → turns_in n p ≡ take 64 (turns_of whole)
 unfolding word_turns
 near-turns n p passage whole is len =
@@ -22,12 +22,12 @@ pub far-turns : (p : Pair) (passage whole : List Pair) → whole ≡ p ∷ passa
 far-turns p passage whole is =
     sym (drop-append_seam (word_turns p) (turns_of passage)) ∙ ap (λ k. drop k (word_turns p ++ turns_of passage)) (length-word p) ∙ ap (λ (l : List Pair). drop 64 (turns_of l)) (sym is)
 
--- along no passage
+-- Along no passage.
 pub no-items : {X : Type 0} (xs : List X) → length xs ≡ 0 → xs ≡ []
 no-items [] e = refl
 no-items (x ∷ xs) e = absurd (omega (arith, e))
 
--- of parts that make up the whole
+-- The first of the parts that make up the whole.
 pub front-of : {X : Type 0} (n : ℕ) (all xs ys : List X) → all ≡ xs ++ ys → length xs ≡ n → take n all ≡ xs
 front-of n all xs ys is len = ap (take n) is ∙ ap (λ k. take k (xs ++ ys)) (sym len) ∙ take-append_seam xs ys
 
@@ -35,7 +35,7 @@ pub back-of : {X : Type 0} (n : ℕ) (all xs ys : List X) → all ≡ xs ++ ys �
 back-of n all xs ys is len = ap (drop n) is ∙ ap (λ k. drop k (xs ++ ys)) (sym len) ∙ drop-append_seam xs ys
 
 module _ {X : Type 0} (behind : X → Option Crossing → X) where
-  -- of fewer things than a word has bits the lowest ones tell all
+  -- If there are at most as many elements as a word has bits, the lowest bits decide them all.
   pub along-in : (n k : ℕ) (xs : List X) (a b : ℕ) (rest : List (Option Crossing)) → length xs ≡ k → k ≤ n
       → along behind xs (turns (marks_in k a) (marks_in k b)) ≡ along behind xs (turns (marks_in n a) (marks_in n b) ++ rest)
   along-in n k [] a b rest len few = refl
@@ -48,7 +48,7 @@ module _ {X : Type 0} (behind : X → Option Crossing → X) where
   along-nil [] = refl
   along-nil (x ∷ xs) = refl
 
-  -- where nothing is crossed all stays
+  -- Without a crossing nothing changes.
   pub along-none : ((x : X) → behind x None ≡ x) → (xs : List X) (ts : List (Option Crossing)) → count_turns ts ≡ 0 → along behind xs ts ≡ xs
   along-none same [] ts e = refl
   along-none same (x ∷ xs) [] e = refl
@@ -66,7 +66,7 @@ module _ {X : Type 0} (behind : X → Option Crossing → X) where
   along-parts (suc n) (x ∷ xs) [] = ap (λ (l : List X). x ∷ l) (halves n xs ∙ ap (λ (l : List X). take n xs ++ l) (sym (along-nil (drop n xs))))
   along-parts (suc n) (x ∷ xs) (t ∷ ts) = ap (λ (l : List X). behind x t ∷ l) (along-parts n xs ts)
 
-  -- what both parts come to
+  -- The result for both parts.
   pub along-both : (n : ℕ) (all xs ys : List X) (ts near far : List (Option Crossing)) → all ≡ xs ++ ys → length xs ≡ n → near ≡ take n ts → far ≡ drop n ts
       → along behind xs near ++ along behind ys far ≡ along behind all ts
   along-both n all xs ys ts near far is len is_near is_far =
@@ -101,14 +101,14 @@ said-parts at id (suc n) (c ∷ counts) (t ∷ ts) =
     ap (λ (l : List Event). event_by at id c.fence t ++ l) (said-parts at id n counts ts)
     ∙ sym (append_assoc (event_by at id c.fence t) (events_along at id (fences_counted (take n counts)) (take n ts)) (events_along at id (fences_counted (drop n counts)) (drop n ts)))
 
--- where nothing is crossed nothing is told
+-- Without a crossing there is no event.
 pub said-none : (at id : ℕ) (counts : List FenceCount) (ts : List (Option Crossing)) → count_turns ts ≡ 0 → events_along at id (fences_counted counts) ts ≡ []
 said-none at id [] ts e = refl
 said-none at id (c ∷ counts) [] e = refl
 said-none at id (c ∷ counts) (None ∷ ts) e = said-none at id counts ts e
 said-none at id (c ∷ counts) (Some x ∷ ts) e = absurd (omega (arith, e))
 
--- what both parts tell
+-- The events of both parts.
 pub said-both : (at id n : ℕ) (counts xs ys : List FenceCount) (ts near far : List (Option Crossing)) → counts ≡ xs ++ ys → length xs ≡ n → near ≡ take n ts → far ≡ drop n ts
     → events_along at id (fences_counted xs) near ++ events_along at id (fences_counted ys) far ≡ events_along at id (fences_counted counts) ts
 said-both at id n counts xs ys ts near far is len is_near is_far =

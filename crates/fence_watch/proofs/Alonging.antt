@@ -23,14 +23,14 @@ use Rattle.fence_watch.specs.Watches.{most_events}
 use Rattle.fence_watch.proofs.Following.{next-behind}
 use Rattle.fence_watch.proofs.Tallying.{tallies-next}
 
--- a walk and a tally behind the same cells
+-- A walk and a tally after the same cells.
 pub record AreBehind {D : Type 0} (w most : ℕ) (front begun : List Cell) (taken : List Event) (fences : List Fence) (now : Drive) (walk : WalkView D) (v : TallyView) : Type 0 where
   pub cells : List Cell
   pub begins : (more : List Cell) × (cells ≡ begun ++ more)
   pub tallies : TalliesFrom (length front) (state_of w front).world taken cells fences v
   pub came : ComesTo w most (front ++ cells) now walk
 
--- so they are, wherever they began, and the drive was only read
+-- The same, wherever they began, with a drive that was only read.
 pub record AreOnWay {D : Type 0} (first now : Drive) (start walk : WalkView D) (old v : TallyView) : Type 0 where
   pub reads : OnlyReads {T = Unit {0}} first now (Ok tt)
   pub few : length v.events ≤ most_events
@@ -38,7 +38,7 @@ pub record AreOnWay {D : Type 0} (first now : Drive) (start walk : WalkView D) (
   pub goes : (w most : ℕ) (front begun : List Cell) (taken : List Event) (fences : List Fence) → ComesTo w most (front ++ begun) first start
       → TalliesFrom (length front) (state_of w front).world taken begun fences old → AreBehind w most front begun taken fences now walk v
 
--- what a call of a walk tells
+-- What a call of a walk returns.
 pub record NextTells {D : Type 0} (now new : Drive) (walk after : WalkView D) (told : Result (Option Walked) OpenFault) : Type 0 where
   pub tells : (w most : ℕ) (cells : List Cell) → ComesTo w most cells now walk → TellsWalked w most cells now new after told
   pub exact : (w most : ℕ) (cells : List Cell) (bytes : List ℕ) (fault : OpenFault) → ComesTo w most cells now walk → now.bytes ≡ Some bytes → IsInBytes fault
@@ -63,7 +63,7 @@ on-way-first first start old few = record {
   goes = λ w most front begun taken fences came tallies. record { cells = begun; begins = ([], sym (append-nil begun)); tallies = tallies; came = came };
 }
 
--- a call more
+-- One more call.
 module _ (first now new : Drive) (reads : OnlyReads {T = Unit {0}} first now (Ok tt)) where
   rose-first : Rose now.faults new.faults → Rose first.faults new.faults
   rose-first rose = subst (λ n. Rose n new.faults) reads.same rose
@@ -124,7 +124,7 @@ module _ (first now new : Drive) (reads : OnlyReads {T = Unit {0}} first now (Ok
         let tells = next.tells w most (front ++ are.cells) are.came in
         led w most front begun taken fences walk after v are (Err e) next (tells.0, tells.1, λ bytes told. tells.2 bytes (reads.stays.bytes ∙ told))
 
-    -- where the tally makes no step, and so stays
+    -- The tally makes no step, and so stays unchanged.
     pub led-cell : (walked : Walked) → NextTells now new walk after (Ok (Some walked)) → (why : WatchFault) (left : TallyView) → left ≡ v
         → (◌≡◌ {A = Result (Unit {0}) WatchFault} (Err why) (Err TooMany)) ↔ IsPast walked v → StopsAt w most front begun taken fences first new after left why walked
     unfolding led
@@ -146,7 +146,7 @@ module _ (first now new : Drive) (reads : OnlyReads {T = Unit {0}} first now (Ok
       came = subst (λ (l : List Cell). ComesTo w most l new after) (append_assoc front are.cells (walked.cell ∷ [])) tells.0;
     }
 
--- the same of all that is on the way
+-- The same for everything on the way.
 module _ {D : Type 0} (first now new : Drive) (start walk after : WalkView D) (old v : TallyView) (way : AreOnWay first now start walk old v) where
   pub way-next : (walked : Walked) (next : TallyView) → OnlyReads now new (Ok (Some walked)) → Tallies walked v next → (IsPast walked v → ⊥)
       → ((w most : ℕ) (cells : List Cell) → ComesTo w most cells now walk → TellsWalked w most cells now new after (Ok (Some walked))) → AreOnWay first new start after old next

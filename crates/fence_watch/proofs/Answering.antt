@@ -1,4 +1,4 @@
--- Who is inside the fence of a number, as a watch that follows cells answers it.
+-- The ids inside the fence of a number, as a watch that follows cells returns them.
 use Rattle.std.proofs.Common.{◌≡◌, ℕ, zero, suc, ◌<◌, Bool, true, false, List, [], ◌∷◌, length, map, get_or, Option, Some, None, refl, sym, ◌∙◌, ap, subst, arith, cond, ◌==◌}
 use Rattle.std.specs.Option.{MatchOption}
 use Rattle.std.proofs.lemmas.Bool.{eq-eqb, eqb-true}
@@ -32,7 +32,7 @@ answers id world (f ∷ fences) = by_test (f.id == id) refl (inside_at id (map (
     by_test false other None rest = ((λ is. true_false (sym (eq-eqb f.id id is) ∙ other)), rest)
     by_test false other (Some ids) rest = behind id world f fences ids rest
 
--- as a watch tells it that holds a world
+-- The same, as a watch that holds a world returns them.
 told : (world : World) (fences : List Fence) (v : WatchView) (id : ℕ) → v.guards ≡ map (guard_in world) fences → MatchOption (inside_at id v.guards) (AreOthers id fences) (λ ids. IsInside id world fences ids)
 told world fences v id is = subst (λ (guards : List Guard). MatchOption (inside_at id guards) (AreOthers id fences) (λ ids. IsInside id world fences ids)) (sym is) (answers id world fences)
 
@@ -48,14 +48,14 @@ none-in world fences v id is held =
     subst (λ (o : Option (List ℕ)). MatchOption o (AreOthers id fences) (λ ids. IsInside id world fences ids)) is (told world fences v id held) in
     t
 
--- in the words of the state that the cells leave
+-- The same, in terms of the state after the cells.
 pub some-follows : (w : ℕ) (cells : List Cell) (fences : List Fence) (v : WatchView) (id : ℕ) (ids : List ℕ) → inside_at id v.guards ≡ Some ids → FollowsCells cells fences v → IsInside id (state_of w cells).world fences ids
 some-follows w cells fences v id ids is f = some-in (state_of w cells).world fences v id ids is (f.guards ∙ ap (λ (world : World). map (guard_in world) fences) (sym (world-of_state w cells)))
 
 pub none-follows : (cells : List Cell) (fences : List Fence) (v : WatchView) (id : ℕ) → inside_at id v.guards ≡ None → FollowsCells cells fences v → AreOthers id fences
 none-follows cells fences v id is f = none-in (world_after_cells [] cells) fences v id is f.guards
 
--- of distinct fences the one of a number is found
+-- If the fences are distinct, the fence of a number is found.
 pub inside-named : (world : World) (fences : List Fence) (i : ℕ) (d : Fence) → AreDistinct fences → i < length fences
     → inside_at (get_or fences i d).id (map (guard_in world) fences) ≡ Some (inside_of world (get_or fences i d))
 inside-named world [] i d distinct lt = absurd (omega (arith, lt))

@@ -1,4 +1,4 @@
--- Fences from code that were looked at one behind the other.
+-- Fences from code, checked one after the other.
 use Rattle.std.proofs.Common.{◌≡◌, ◌≤◌, ◌<◌, ◌+◌, ◌∙◌, ℕ, Bool, true, false, cond, List, [], ◌∷◌, ◌++◌, length, take, drop, get_or, Option, Some, None, refl, sym, ap, subst, arith}
 use Rattle.std.specs.Prelude.{nat_lt}
 use Rattle.std.proofs.lemmas.Bool.{lt-ltb}
@@ -11,7 +11,7 @@ use Rattle.fence_watch.specs.Fences.{AreFences, IsFence, has_fence}
 use Rattle.fence_watch.specs.FenceFaults.{is_box, fault_behind, first_of_two, fault_among, fault_of}
 use Rattle.fence_watch.proofs.RowsFacts.{fence-more}
 
--- the first few are fences to watch
+-- The first `i` fences keep the rules.
 pub record Looked (i : ℕ) (fences : List Fence) : Type 0 where
   pub same : fault_among [] fences ≡ fault_among (take i fences) (drop i fences)
   pub good : AreFences (take i fences)
@@ -36,7 +36,7 @@ new-id earlier f none = by_test (is_box f.region) (has_fence f.id earlier) none
     by_test true false e = refl
     by_test false there e = cc e
 
--- the next one
+-- The next one.
 module _ (i : ℕ) (fences : List Fence) (d : Fence) (lt : i < length fences) (few : length fences ≤ 256) (looked : Looked i fences) where
   split : fault_among (take i fences) (drop i fences) ≡ first_of_two (fault_behind (take i fences) (get_or fences i d)) (fault_among (take i fences ++ get_or fences i d ∷ []) (drop (i + 1) fences))
   split = ap (fault_among (take i fences)) (drop_more fences i d lt)
@@ -54,7 +54,7 @@ module _ (i : ℕ) (fences : List Fence) (d : Fence) (lt : i < length fences) (f
   looked-fault e at = fault-few fences few ∙ looked.same ∙ split
       ∙ ap (λ (o : Option BadFences). first_of_two o (fault_among (take i fences ++ get_or fences i d ∷ []) (drop (i + 1) fences))) at
 
--- all of them
+-- All of them.
 module _ (i : ℕ) (fences : List Fence) (le : length fences ≤ i) (few : length fences ≤ 256) (looked : Looked i fences) where
   pub looked-none : fault_of fences ≡ None
   looked-none = fault-few fences few ∙ looked.same ∙ ap (fault_among (take i fences)) (drop_all i fences le)

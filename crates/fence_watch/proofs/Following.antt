@@ -1,4 +1,4 @@
--- A watch that follows the cells of a log goes on following them.
+-- A watch that follows the cells of a log continues to follow them.
 use Rattle.std.proofs.Common.{◌≡◌, ℕ, suc, ◌+◌, length, Bool, true, false, List, [], ◌∷◌, ◌++◌, map, Option, Some, None, refl, sym, ◌∙◌, ap, subst, arith, cond, ◌==◌, append_assoc, append-nil, length-append}
 use Rattle.std.specs.Prelude.{nat_lt}
 use Rattle.std.specs.List.{find}
@@ -27,12 +27,12 @@ use Rattle.fence_watch.specs.Crossings.{world_behind, world_after_cells, crossin
 use Rattle.fence_watch.specs.Watches.{Guard, WatchView, fences_of, guard_behind, guard_in, with_id, without_id, inside_behind, HoldsBefore, Steps, StepsBy, FollowsFrom, FollowsCells, HoldsWorld}
 use Rattle.fence_watch.proofs.Insides.{inside-put, inside-moved, inside-gone, has-inside}
 
--- one cell more
+-- One more cell.
 pub after-snoc : (world : World) (cells : List Cell) (c : Cell) → world_after_cells world (cells ++ c ∷ []) ≡ world_behind (world_after_cells world cells) c
 after-snoc world [] c = refl
 after-snoc world (d ∷ cells) c = after-snoc (world_behind world d) cells c
 
--- a cell makes of a world what its step makes of a state's
+-- A cell changes a world as its step changes the world of a state.
 world-step : (w : ℕ) (s : State) (c : Cell) → (step w s (entry_of c)).world ≡ world_behind s.world c
 world-step w s (cell.Put id at moment) = refl
 world-step w s (cell.Move id at moment) = refl
@@ -45,11 +45,11 @@ world-after : (w : ℕ) (s : State) (cells : List Cell) → (cells_after w s cel
 world-after w s [] = refl
 world-after w s (c ∷ cells) = world-after w (step w s (entry_of c)) cells ∙ ap (λ (world : World). world_after_cells world cells) (world-step w s c)
 
--- the world of the state that cells leave is the world after them, whatever the width is
+-- The world of the state after cells is the world after them, whatever the width is.
 pub world-of_state : (w : ℕ) (cells : List Cell) → (state_of w cells).world ≡ world_after_cells [] cells
 world-of_state w cells = world-after w empty_state cells
 
--- whether ids rise after a cell that is a change, or none
+-- The ids rise after a cell, whether or not it is a change.
 rising-put : (m : Member) (world : World) (o : Option Stamped) → position_of world m.id ≡ o → (full : Bool) → IsRising (places_of world)
     → IsRising (places_of (cond (is_change (option_map_or Present o (cond full Full Done))) (with_member m world) world))
 rising-put m world (Some p) e full rising = rising
@@ -78,7 +78,7 @@ rising-behind world (cell.Begin number name) rising = rising
 rising-behind world (cell.Install number) rising = rising
 rising-behind world (cell.Abandon number) rising = rising
 
--- the ids of a world after cells rise, be they legal or not
+-- The ids of a world rise after cells, whether or not these are legal.
 pub rising-after : (world : World) (cells : List Cell) → IsRising (places_of world) → IsRising (places_of (world_after_cells world cells))
 rising-after world [] rising = rising
 rising-after world (c ∷ cells) rising = rising-after (world_behind world c) cells (rising-behind world c rising)
@@ -97,7 +97,7 @@ crossings-snoc at world (d ∷ cells) c fences =
 abbrev place_at : World → ℕ → Option Point
 place_at world id = option_map (λ (s : Stamped). s.at) (position_of world id)
 
--- who stays where he is stays inside or outside
+-- An object that stays at its position stays inside or outside.
 stays : (id : ℕ) (p : Option Point) (f : Fence) (ids : List ℕ) → inside_behind id p p f ids ≡ ids
 stays id p f ids = by_test (lies_in f p)
   where
@@ -155,7 +155,7 @@ drop-behind id world f rising (Some p) e =
     by_test true = refl
     by_test false = refl
 
--- a guard behind a cell is that of the world behind it
+-- A guard after a cell is the guard of the world after it.
 pub guard-behind : (world : World) (c : Cell) (f : Fence) → IsRising (places_of world)
     → guard_in (world_behind world c) f ≡ guard_behind (object_of c) (place_in world (object_of c)) (place_in (world_behind world c) (object_of c)) (guard_in world f)
 guard-behind world (cell.Put id at moment) f rising = ap (λ (ids : List ℕ). record { fence = f; inside = ids }) (put-behind (record { id = id; at = at; moment = moment }) world f rising (position_of world id) refl (is_full world))
@@ -174,14 +174,14 @@ guards-behind : (world : World) (c : Cell) (fences : List Fence) → IsRising (p
 guards-behind world c [] rising = refl
 guards-behind world c (f ∷ fences) rising = λ i. guard-behind world c f rising i ∷ guards-behind world c fences rising i
 
--- what a walk tells of the next cell, in the worlds of the crossings
+-- What a walk returns of the next cell, in terms of the worlds of the crossings.
 pub places-before : (w : ℕ) (cells : List Cell) (walked : Walked) → IsNextWalked w cells walked → walked.before ≡ place_in (world_after_cells [] cells) (object_of walked.cell)
 places-before w cells walked n = n.before ∙ ap (λ (world : World). place_in world (object_of walked.cell)) (world-of_state w cells)
 
 pub places-after : (w : ℕ) (cells : List Cell) (walked : Walked) → IsNextWalked w cells walked → walked.after ≡ place_in (world_behind (world_after_cells [] cells) walked.cell) (object_of walked.cell)
 places-after w cells walked n = n.after ∙ ap (λ (world : World). place_in world (object_of walked.cell)) (world-of_state w (cells ++ walked.cell ∷ []) ∙ after-snoc [] cells walked.cell)
 
--- cells behind others of a log
+-- Cells after other cells of a log.
 pub after-append : (world : World) (front cells : List Cell) → world_after_cells world (front ++ cells) ≡ world_after_cells (world_after_cells world front) cells
 after-append world [] cells = refl
 after-append world (c ∷ front) cells = after-append (world_behind world c) front cells
@@ -199,13 +199,13 @@ next-behind w front cells walked n =
 pub next-first : (w : ℕ) (cells : List Cell) (walked : Walked) → IsNextWalked w cells walked → IsNextFrom 0 [] cells walked
 next-first w cells walked n = next-behind w [] cells walked n
 
--- a step of an object between its places in a world and in the world behind it
+-- A step of an object between its positions in a world and in the world after it.
 pub steps-guards : (world : World) (c : Cell) (fences : List Fence) (at : ℕ) (before after : Option Point) (old new : WatchView) → IsRising (places_of world) → old.guards ≡ map (guard_in world) fences
     → before ≡ place_in world (object_of c) → after ≡ place_in (world_behind world c) (object_of c) → StepsBy at (object_of c) before after old new → new.guards ≡ map (guard_in (world_behind world c)) fences
 steps-guards world c fences at before after old new rising guards_are is_before is_after s =
     s.guards ∙ (λ i. map (guard_behind (object_of c) (is_before i) (is_after i)) (guards_are i)) ∙ sym (guards-behind world c fences rising)
 
--- a step along the next cell
+-- A step along the next cell.
 pub follows-next : (at : ℕ) (start : World) (taken : List Event) (cells : List Cell) (fences : List Fence) (walked : Walked) (old new : WatchView)
     → FollowsFrom at start taken cells fences old → IsNextFrom at start cells walked → Steps walked old new → FollowsFrom at start taken (cells ++ walked.cell ∷ []) fences new
 follows-next at start taken cells fences walked old new f n s =
@@ -222,7 +222,7 @@ follows-next at start taken cells fences walked old new f n s =
           ∙ ap (λ (w : World). map (guard_in w) fences) (sym (after-snoc start cells walked.cell));
     }
 
--- a step along the next cell of a log
+-- A step along the next cell of a log.
 pub follows-step : (w : ℕ) (cells : List Cell) (fences : List Fence) (walked : Walked) (old new : WatchView)
     → FollowsCells cells fences old → IsNextWalked w cells walked → Steps walked old new → FollowsCells (cells ++ walked.cell ∷ []) fences new
 follows-step w cells fences walked old new f n s = follows-next 0 [] [] cells fences walked old new f (next-first w cells walked n) s
@@ -232,7 +232,7 @@ holds-in world None fences rising = tt
 holds-in world (Some id) [] rising = tt
 holds-in world (Some id) (f ∷ fences) rising = (has-inside f id world rising, holds-in world (Some id) fences rising)
 
--- a watch that holds a world may make a step of an object from where it is there
+-- A watch that holds a world may make a step of an object from its position in that world.
 pub holds-world : (world : World) (o : Option ℕ) (before : Option Point) (fences : List Fence) (view : WatchView) → HoldsWorld world fences view → before ≡ place_in world o → HoldsBefore o before view.guards
 holds-world world o before fences view holds is =
     subst (λ (guards : List Guard). HoldsBefore o before guards) (sym holds.guards)
@@ -241,7 +241,7 @@ holds-world world o before fences view holds is =
 pub world-from : (at : ℕ) (start : World) (taken : List Event) (cells : List Cell) (fences : List Fence) (view : WatchView) → FollowsFrom at start taken cells fences view → HoldsWorld (world_after_cells start cells) fences view
 world-from at start taken cells fences view f = record { rising = rising-after start cells f.rising; guards = f.guards }
 
--- a watch that follows cells may make a step along the next one
+-- A watch that follows cells may make a step along the next one.
 pub holds-from : (at : ℕ) (start : World) (taken : List Event) (cells : List Cell) (fences : List Fence) (walked : Walked) (view : WatchView)
     → FollowsFrom at start taken cells fences view → IsNextFrom at start cells walked → HoldsBefore (object_of walked.cell) walked.before view.guards
 holds-from at start taken cells fences walked view f n =

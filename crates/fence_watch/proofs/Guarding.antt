@@ -1,4 +1,4 @@
--- What a step tells of a tally, told of the guards over it.
+-- What a step says of a tally, in terms of the guards over it.
 use Rattle.std.proofs.Common.{◌≡◌, ℕ, ◌≤◌, ◌<◌, ◌+◌, List, ◌++◌, length, map, Option, Result, Ok, Err, OnOk, OnErr, sym, ◌∙◌, ap, subst}
 use Rattle.zorder.specs.declared.points.Point.{Point}
 use Rattle.fence_watch.specs.declared.fences.Fence.{Fence}
@@ -12,7 +12,7 @@ use Rattle.fence_watch.specs.Watches.{Guard, fences_of, guard_behind, HoldsBefor
 use Rattle.fence_watch.proofs.Passing.{fences-behind, rising-behind}
 use Rattle.fence_watch.proofs.Tallying.{fences-behind as counted-behind}
 
--- guards over a tally of the same fences
+-- Guards over a tally of the same fences.
 module _ (at : ℕ) (o : Option ℕ) (before after : Option Point) (guards : List Guard) (t : TallyView) (same : fences_of guards ≡ fences_counted t.counts) where
   abbrev Passes : List Fence → Type 0
   Passes fences = most_events < length t.events + length (crossings_by at o before after fences)
@@ -40,7 +40,7 @@ keeps-behind at o before after guards new t u keeps holds is tallies =
       few = subst (λ (l : List Fence). length l ≤ most_fences) (sym same) keeps.few;
     }
 
--- either way
+-- Either result.
 pub keeps-either : {E : Type 0} (r : Result (Unit {0}) E) (at : ℕ) (o : Option ℕ) (before after : Option Point) (guards new : List Guard) (t u : TallyView) → Keeps guards t → HoldsBefore o before guards
     → OnOk r (new ≡ map (guard_behind o before after) guards) → OnOk r (TalliesBy at o before after t u) → OnErr r (new ≡ guards) → OnErr r (u ≡ t) → Keeps new u
 keeps-either (Ok x) at o before after guards new t u keeps holds is tallies same stays = keeps-behind at o before after guards new t u keeps holds is tallies

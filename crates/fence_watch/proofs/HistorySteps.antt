@@ -1,4 +1,4 @@
--- A tally that is told the changes of a history follows its world.
+-- A tally that follows the changes of a history follows its world.
 use Rattle.std.proofs.Common.{◌≡◌, ℕ, suc, ◌≤◌, Bool, true, false, List, [], ◌∷◌, ◌++◌, length, map, Option, Some, None, refl, sym, ◌∙◌, ap, subst, cond, append_assoc, append-nil}
 use Rattle.std.specs.Prelude.{nat_lt, option_to_list}
 use Rattle.std.specs.Option.{option_map_or}
@@ -28,7 +28,7 @@ use Rattle.fence_watch.specs.Told.{TalliesChanges, changes_crossings, counts_aft
 use Rattle.fence_watch.proofs.Tallying.{counted-in, fences-behind}
 use Rattle.fence_watch.proofs.WorldSteps.{follows-on}
 
--- what a call has changed has its place
+-- The change of a call has the place of the call.
 place-change_of : (place : ℕ) (world : World) (o : Op) (c : Change) → change_of place o (answer_of world o) ≡ Some c → c.place ≡ place
 place-change_of place world (op.Put id at moment) c = by_place (position_of world id) (is_full world)
   where
@@ -54,17 +54,17 @@ place-change_of place world (op.Find id) c = λ is. absurd (cc is)
 place-change_of place world (op.Within region) c = λ is. absurd (cc is)
 place-change_of place world (op.Near at k) c = λ is. absurd (cc is)
 
--- a tally of a world before any step
+-- A tally of a world before any step.
 abbrev fresh : World → List Fence → TallyView
 fresh world fences = record { counts = map (count_in world) fences; events = [] }
 
--- the numbers of a world, led along the changes of a history
+-- The numbers of a world, along the changes of a history.
 abbrev Leads : ℕ → World → List Entry → List Fence → Type 0
 Leads calls world h fences =
     IsRising (places_of world) → length world ≤ most_members
     → FollowsWorld (world_after world h) fences (record { counts = counts_after (changes_from calls world h) (map (count_in world) fences); events = [] })
 
--- a call that has changed this, if anything, and the history behind it
+-- A call with this change, if any, and the history after it.
 lead-call : (calls : ℕ) (world : World) (o : Op) (h : List Entry) (fences : List Fence) (told : Option Change) → change_of (suc calls) o (answer_of world o) ≡ told
     → Leads (suc calls) (after_of world o) h fences → IsRising (places_of world) → length world ≤ most_members
     → FollowsWorld (world_after (after_of world o) h) fences (record { counts = counts_after (option_to_list told ++ changes_from (suc calls) (after_of world o) h) (map (count_in world) fences); events = [] })
@@ -92,13 +92,13 @@ follows-from calls world (entry.Fail cell lost ∷ h) fences rising few = follow
 follows-from calls world (entry.Call session row o ∷ h) fences rising few =
     lead-call calls world o h fences (change_of (suc calls) o (answer_of world o)) refl (follows-from (suc calls) (after_of world o) h fences) rising few
 
--- a tally that was told the changes of a history follows its world
+-- A tally that has followed the changes of a history follows its world.
 pub follows-history : (world : World) (h : List Entry) (taken : List Event) (fences : List Fence) (v : TallyView) → TalliesChanges world taken (changes_of world h) fences v → FollowsWorld (world_after world h) fences v
 follows-history world h taken fences v t =
     let at = follows-from 0 world h fences t.rising t.few in
     record { rising = at.rising; few = at.few; counts = t.counts ∙ at.counts }
 
--- the fences stay
+-- The fences stay the same.
 fences-after : (changes : List Change) (counts : List FenceCount) → fences_counted (counts_after changes counts) ≡ fences_counted counts
 fences-after [] counts = refl
 fences-after (c ∷ changes) counts = fences-after changes (map (count_behind (Some c.id) c.before c.after) counts) ∙ fences-behind (Some c.id) c.before c.after counts
@@ -112,7 +112,7 @@ crossings-push changes c fences =
     let told : Change → List Event = λ (d : Change). crossings_of d.place d.id d.before d.after fences in
     flat_map-append told changes (c ∷ []) ∙ ap (λ (l : List Event). changes_crossings changes fences ++ l) (flat_map-cons told c [] ∙ append-nil (told c))
 
--- a change more
+-- One more change.
 pub tallies-change : (world : World) (taken : List Event) (changes : List Change) (fences : List Fence) (c : Change) (old new : TallyView) → TalliesChanges world taken changes fences old
     → TalliesBy c.place (Some c.id) c.before c.after old new → TalliesChanges world taken (changes ++ c ∷ []) fences new
 tallies-change world taken changes fences c old new t s =

@@ -1,4 +1,4 @@
--- Who is inside a fence behind a change of a world.
+-- The ids inside a fence after a change of a world.
 use Rattle.std.proofs.Common.{◌≡◌, ℕ, ◌<◌, ◌≤◌, Bool, true, false, not, List, [], ◌∷◌, map, Some, None, refl, sym, ◌∙◌, ap, subst, arith, cond, ◌==◌, ◌||◌}
 use Rattle.std.specs.Prelude.{nat_lt}
 use Rattle.std.specs.List.{filter, find}
@@ -33,11 +33,11 @@ eqb-same a = eq-eqb a a refl
 true_false : true ≡ false → ⊥
 true_false t = cc t
 
--- an id more, or none
+-- One more id, or none.
 abbrev pub more : Bool → ℕ → List ℕ → List ℕ
 more b id ids = cond b (id ∷ ids) ids
 
--- who is inside, where an object stands in front
+-- The ids inside, if an object comes first.
 pub first-inside : (f : Fence) (n : Member) (ns : World) → inside_of (n ∷ ns) f ≡ more (has_point f.region n.at) n.id (inside_of ns f)
 first-inside f n ns = by_test (has_point f.region n.at)
   where
@@ -48,18 +48,18 @@ first-inside f n ns = by_test (has_point f.region n.at)
     by_test true = refl
     by_test false = refl
 
--- an id that comes before another one
+-- An id that comes before another one.
 with-before : (b : Bool) (id x : ℕ) (ids : List ℕ) → id < x → with_id id ids ≡ id ∷ ids → with_id id (more b x ids) ≡ id ∷ more b x ids
 with-before true id x ids lt e = λ i. cond (lt-ltb id x lt i) (id ∷ x ∷ ids) (x ∷ with_id id ids)
 with-before false id x ids lt e = e
 
--- an id below all
+-- An id below all others.
 with-least : (f : Fence) (id : ℕ) (ms : World) → IsAbove id (places_of ms) → with_id id (inside_of ms f) ≡ id ∷ inside_of ms f
 with-least f id [] above = refl
 with-least f id (m ∷ ms) above =
     ap (with_id id) (first-inside f m ms) ∙ with-before (has_point f.region m.at) id m.id (inside_of ms f) above.0 (with-least f id ms above.1) ∙ ap (λ (l : List ℕ). id ∷ l) (sym (first-inside f m ms))
 
--- an id that comes behind another one
+-- An id that comes after another one.
 with-behind : (b : Bool) (id x : ℕ) (ids : List ℕ) → x ≤ id → with_id id (more b x ids) ≡ more b x (with_id id ids)
 with-behind true id x ids le = λ i. cond (nat_lt-false id x le i) (id ∷ x ∷ ids) (x ∷ with_id id ids)
 with-behind false id x ids le = refl
@@ -83,7 +83,7 @@ without-least f id (m ∷ ms) above =
 some-none : {A : Type 0} (x : A) → Some x ≡ None → ⊥
 some-none x e = cc e
 
--- an object that isn't found has another id than the first one, and isn't behind it
+-- An object that isn't found has another id than the first one, and isn't among the others.
 not_first : (n : Member) (ns : World) (id : ℕ) → position_of (n ∷ ns) id ≡ None → (n.id ≡ id → ⊥) × (position_of ns id ≡ None)
 not_first n ns id none = by_test (n.id == id) refl none
   where
@@ -91,7 +91,7 @@ not_first n ns id none = by_test (n.id == id) refl none
     by_test true same e = absurd (some-none (stamped_of n) e)
     by_test false same e = ((λ is. true_false (sym (eq-eqb n.id id is) ∙ same)), e)
 
--- a put, of an object that isn't there
+-- A put of an object that isn't there.
 pub inside-put : (f : Fence) (m : Member) (ns : World) → position_of ns m.id ≡ None → IsRising (places_of ns) → inside_of (with_member m ns) f ≡ cond (has_point f.region m.at) (with_id m.id (inside_of ns f)) (inside_of ns f)
 inside-put f m [] none rising = first-inside f m []
 inside-put f m (n ∷ ns) none rising = by_test (nat_lt m.id n.id) refl (inside-put f m ns (not_first n ns m.id none).1 rising.1)
@@ -119,11 +119,11 @@ inside-put f m (n ∷ ns) none rising = by_test (nat_lt m.id n.id) refl (inside-
         lt_false : (a c : ℕ) → nat_lt a c ≡ false → c ≤ a
         lt_false a c t = grind (arith, nat_tests)
 
--- what a fence holds of an object that is found
+-- What a fence holds of an object that is found.
 abbrev taken : Bool → Bool → ℕ → List ℕ → List ℕ
 taken was is id ids = cond was (cond is ids (without_id id ids)) (cond is (with_id id ids) ids)
 
--- the position of a first object, and of one behind it
+-- The position of the first object, and of a later one.
 first-position : (n : Member) (ns : World) (id : ℕ) → n.id ≡ id → position_of (n ∷ ns) id ≡ Some (stamped_of n)
 first-position n ns id same = λ i. option_map stamped_of (cond (eq-eqb n.id id same i) (Some n) (find (λ m. m.id == id) ns))
 
@@ -141,7 +141,7 @@ found-above k id p (n ∷ ns) above e = by_test (n.id == id) refl (λ later. fou
 kept_same : (p q : Stamped) → Some p ≡ Some q → p ≡ q
 kept_same p q e = cc e
 
--- a move, of an object that is there
+-- A move of an object that is there.
 pub inside-moved : (f : Fence) (id : ℕ) (old to : Stamped) (ns : World) → position_of ns id ≡ Some old → IsRising (places_of ns)
     → inside_of (with_moved id to ns) f ≡ taken (has_point f.region old.at) (has_point f.region to.at) id (inside_of ns f)
 inside-moved f id old to [] there rising = absurd (cc there)
@@ -179,7 +179,7 @@ inside-moved f id old to (n ∷ ns) there rising = by_test (n.id == id) refl (λ
         ∙ behind (has_point f.region n.at) (has_point f.region old.at) (has_point f.region to.at) (found-above n.id id old ns rising.0 later)
         ∙ ap (taken (has_point f.region old.at) (has_point f.region to.at) id) (sym (first-inside f n ns))
 
--- a drop, of an object that is there
+-- A removal of an object that is there.
 pub inside-gone : (f : Fence) (id : ℕ) (old : Stamped) (ns : World) → position_of ns id ≡ Some old → IsRising (places_of ns)
     → inside_of (without id ns) f ≡ cond (has_point f.region old.at) (without_id id (inside_of ns f)) (inside_of ns f)
 inside-gone f id old ns there rising = all ns ∙ or_same (has_point f.region old.at) refl
@@ -195,7 +195,7 @@ inside-gone f id old ns there rising = all ns ∙ or_same (has_point f.region ol
     all [] = refl
     all (n ∷ ms) = kept (n.id == id) n ms refl (all ms) ∙ ap (without_id id) (sym (first-inside f n ms))
 
-    -- an object that isn't inside isn't among the ids
+    -- An object that isn't inside isn't among the ids.
     outside : (ms : World) → position_of ms id ≡ Some old → IsRising (places_of ms) → has_point f.region old.at ≡ false → without_id id (inside_of ms f) ≡ inside_of ms f
     outside [] e r out = refl
     outside (n ∷ ms) e r out = by_test (n.id == id) refl (λ later. outside ms later r.1 out)
@@ -217,7 +217,7 @@ inside-gone f id old ns there rising = all ns ∙ or_same (has_point f.region ol
     or_same true e = refl
     or_same false e = outside ns there rising e
 
--- an id below all is not among them
+-- An id below all others is not among them.
 has-least : (f : Fence) (id : ℕ) (ms : World) → IsAbove id (places_of ms) → has_id id (inside_of ms f) ≡ false
 has-least f id [] above = refl
 has-least f id (m ∷ ms) above =
@@ -227,7 +227,7 @@ has-least f id (m ∷ ms) above =
     has-other true id x ids other = ap (λ (t : Bool). t || has_id id ids) (eqb-false x id other)
     has-other false id x ids other = refl
 
--- an id is inside exactly where its object lies in the fence
+-- An id is inside if and only if its object is in the fence.
 pub has-inside : (f : Fence) (id : ℕ) (ms : World) → IsRising (places_of ms) → has_id id (inside_of ms f) ≡ lies_in f (option_map (λ (s : Stamped). s.at) (position_of ms id))
 has-inside f id [] rising = refl
 has-inside f id (n ∷ ns) rising = ap (has_id id) (first-inside f n ns) ∙ by_test (n.id == id) refl (has-inside f id ns rising.1)

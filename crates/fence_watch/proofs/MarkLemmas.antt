@@ -1,4 +1,4 @@
--- What bits of words tell of marks, and of turns.
+-- What the bits of words say about marks, and about turns.
 use Rattle.std.proofs.Common.{◌≡◌, ℕ, zero, suc, ◌≤◌, ◌<◌, ◌+◌, ◌*◌, ◌/◌, ◌%◌, ◌^◌, ◌==◌, ◌&&◌, Bool, true, false, List, [], ◌∷◌, ◌++◌, length, map, take, drop, get_or, Option, Some, None, cond, refl, sym, ◌∙◌, ap, arith, append-nil}
 use Rattle.std.specs.Prelude.{bit_and, bit_xor}
 use Rattle.std.specs.Int.RustNames.{count_ones}
@@ -19,7 +19,7 @@ pub length-marks : (n w : ℕ) → length (marks_in n w) ≡ n
 length-marks zero w = refl
 length-marks (suc n) w = ap suc (length-marks n (w / 2))
 
--- bits that both words have
+-- The bits that both words have.
 both-bit : (x y : ℕ) → x < 2 → y < 2 → (bit_and x y == 1) ≡ ((x == 1) && (y == 1))
 both-bit zero zero a b = refl
 both-bit zero (suc zero) a b = refl
@@ -48,12 +48,12 @@ word-length : (a b : ℕ) → length (word_marks a) ≡ length (word_marks b)
 unfolding word_marks
 word-length a b = length-marks 64 a ∙ sym (length-marks 64 b)
 
--- two words' bits, and what follows
+-- The bits of two words, and of the words after them.
 both-word : (a b : ℕ) (before after : List ℕ) (rest : List Bool) → rest ≡ both (marks_of before) (marks_of after) → word_marks (bit_and a b) ++ rest ≡ both (marks_of (a ∷ before)) (marks_of (b ∷ after))
 both-word a b before after rest e =
     (λ i. word-and a b i ++ e i) ∙ sym (both-append (word_marks a) (word_marks b) (marks_of before) (marks_of after) (word-length a b))
 
--- an array of four
+-- An array of four.
 
 pub four : {X : Type 0} (xs : List X) (o : X) → length xs ≡ 4 → xs ≡ get_or xs 0 o ∷ get_or xs 1 o ∷ get_or xs 2 o ∷ get_or xs 3 o ∷ []
 four [] o e = absurd (omega (arith, e))
@@ -68,7 +68,7 @@ both-words a b c d e f g h =
     both-word a e (b ∷ c ∷ d ∷ []) (f ∷ g ∷ h ∷ []) (marks_of (bit_and b f ∷ bit_and c g ∷ bit_and d h ∷ []))
     (both-word b f (c ∷ d ∷ []) (g ∷ h ∷ []) (marks_of (bit_and c g ∷ bit_and d h ∷ [])) (both-word c g (d ∷ []) (h ∷ []) (marks_of (bit_and d h ∷ [])) (both-word d h [] [] [] refl)))
 
--- the turns of words, likewise
+-- The turns of words, in the same way.
 turns-append : (xs ys before after : List Bool) → length xs ≡ length ys → turns (xs ++ before) (ys ++ after) ≡ turns xs ys ++ turns before after
 turns-append [] [] before after e = refl
 turns-append [] (y ∷ ys) before after e = absurd (cc e)
@@ -88,7 +88,7 @@ turns-words p q r s =
     turns-word p (q.was ∷ r.was ∷ s.was ∷ []) (q.is ∷ r.is ∷ s.is ∷ []) (turns_of (q ∷ r ∷ s ∷ []))
     (turns-word q (r.was ∷ s.was ∷ []) (r.is ∷ s.is ∷ []) (turns_of (r ∷ s ∷ [])) (turns-word r (s.was ∷ []) (s.is ∷ []) (turns_of (s ∷ [])) (turns-word s [] [] [] refl)))
 
--- how many bits differ
+-- How many bits differ.
 none-differ : count_ones (bit_xor 0 0) ≡ 0
 unfolding count_ones
 none-differ = refl
@@ -160,7 +160,7 @@ length-word p = length-turns 64 p.was p.is
 pub few-turns : (p : Pair) → count_turns (word_turns p) ≤ 64
 few-turns p = omega (arith, count-le (word_turns p), length-word p)
 
--- where both words are the same none is crossed
+-- No fence is crossed if both words are the same.
 turn-same : (b : Bool) (ts : List (Option Crossing)) → count_turns (turn b b ∷ ts) ≡ count_turns ts
 turn-same true ts = refl
 turn-same false ts = refl
@@ -172,7 +172,7 @@ quiet (x ∷ xs) = turn-same x (turns xs xs) ∙ quiet xs
 pub quiet-pair : (n : ℕ) (p : Pair) → p.was ≡ p.is → count_turns (turns_in n p) ≡ 0
 quiet-pair n p same = ap (λ w. count_turns (turns (marks_in n p.was) (marks_in n w))) (sym same) ∙ quiet (marks_in n p.was)
 
--- a word of before many marks before it has bits at most
+-- The marks of a mask, and the bound on a mask of few spans.
 low-bit : (m : Bool) (k : ℕ) → ((cond m 1 0 + 2 * k) % 2 == 1) ≡ m
 low-bit true k = let e : (1 + 2 * k) % 2 ≡ 1 = omega arith in ap (λ n. n == 1) e
 low-bit false k = let e : (0 + 2 * k) % 2 ≡ 0 = omega arith in ap (λ n. n == 1) e
@@ -193,7 +193,7 @@ word-fits at word list is few =
     let most : 2 ^ length (row_at at list) ≤ 2 ^ 63 = pow-le-pow_right {n = 2} (omega arith) {i = length (row_at at list)} {j = 63} (omega (arith, len, few)) in
     omega (arith, is, below, most)
 
--- a list that is filled up, in two parts
+-- A list that is filled up, in two parts.
 drop-none : (n : ℕ) → drop {A = Span} n [] ≡ []
 drop-none zero = refl
 drop-none (suc n) = refl
@@ -211,7 +211,7 @@ filled-parts at (suc a) b (suc n) [] e =
     take-none (suc k) = refl
 filled-parts at (suc a) b (suc n) (s ∷ list) e = ap (λ (l : List Bool). spans at s ∷ l) (filled-parts at a b n list (omega (arith, e)))
 
--- the words of a row of marks
+-- The words of a row of marks.
 pub word-row : (at word : ℕ) (list : List Span) → word ≡ mask_l (row_at at list) → word_marks word ≡ filled false 64 (row_at at list)
 unfolding word_marks
 word-row at word list e = ap (marks_in 64) e ∙ marks-mask 64 (row_at at list)
@@ -230,7 +230,7 @@ row-words at a b c d list ea eb ec ed =
     cut-last : (l : List Span) → filled false 64 (row_at at (take 64 l)) ≡ filled false 64 (row_at at l)
     cut-last l = sym (append-nil (filled false 64 (row_at at (take 64 l)))) ∙ filled-parts at 64 0 64 l refl
 
--- marks of both coordinates, filled up
+-- The marks of both coordinates, filled up.
 no-marks : (l : List Bool) → both l [] ≡ []
 no-marks [] = refl
 no-marks (x ∷ l) = refl
@@ -262,7 +262,7 @@ none-all fences = none-filled 256 fences
 pub nowhere : (fences : List Fence) → marks_of (0 ∷ 0 ∷ 0 ∷ 0 ∷ []) ≡ all_marks (map (λ (f : Fence). false) fences)
 nowhere fences = row-words 0 0 0 0 0 [] refl refl refl refl ∙ none-all fences
 
--- turns of marks that are filled up
+-- Turns of marks that are filled up.
 turns-filled : (n : ℕ) (p q : Fence → Bool) (fences : List Fence) → turns (filled false n (map p fences)) (filled false n (map q fences)) ≡ filled None n (map (λ (f : Fence). turn (p f) (q f)) fences)
 turns-filled zero p q fences = refl
 turns-filled (suc n) p q [] = ap (λ (l : List (Option Crossing)). None ∷ l) (turns-filled n p q [])

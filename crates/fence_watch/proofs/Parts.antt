@@ -9,7 +9,7 @@ use Rattle.fence_watch.specs.Passages.{turns, turns_in, word_turns, turns_of, co
 use Rattle.fence_watch.specs.Guards.{AllRising, guard_of, guards_of, behind_by, guards_along, HaveRoom, crossed_by, crossed_in}
 use Rattle.fence_watch.proofs.AlongParts.{front-of, back-of, along-in, along-both}
 
--- of fewer guards than a word has bits the lowest ones tell all
+-- If there are at most as many guards as a word has bits, the lowest bits decide them all.
 room-in : (n : ℕ) (guards : List Guarded) (a b : ℕ) (rest : List (Option Crossing)) → length guards ≤ n
     → HaveRoom guards (turns (marks_in (length guards) a) (marks_in (length guards) b)) → HaveRoom guards (turns (marks_in n a) (marks_in n b) ++ rest)
 room-in n [] a b rest few room = tt
@@ -43,7 +43,7 @@ pub no-room : (guards : List Guarded) → HaveRoom guards []
 no-room [] = tt
 no-room (g ∷ guards) = tt
 
--- the ids rise, and there is room, in both parts as in all
+-- The ids rise, and there is room, in both parts as in the whole.
 pub rising-take : (n : ℕ) (guards : List Guarded) → AllRising (guards_of guards) → AllRising (guards_of (take n guards))
 rising-take zero guards rising = tt
 rising-take (suc n) [] rising = tt
@@ -73,7 +73,7 @@ room-append zero (x ∷ xs) ys ts e near far = absurd (omega (arith, e))
 room-append (suc n) (x ∷ xs) ys [] e near far = tt
 room-append (suc n) (x ∷ xs) ys (t ∷ ts) e near far = (near.0, room-append n xs ys ts (omega (arith, e)) near.1 far)
 
--- where nothing is crossed there is room
+-- Without a crossing there is room.
 pub room-none : (guards : List Guarded) (ts : List (Option Crossing)) → count_turns ts ≡ 0 → HaveRoom guards ts
 room-none [] ts e = tt
 room-none (g ∷ guards) [] e = tt
@@ -98,7 +98,7 @@ pub room-back : (n : ℕ) (guards xs ys : List Guarded) (ts far : List (Option C
 room-back n guards xs ys ts far is len is_far room =
     subst (λ (l : List Guarded). HaveRoom l far) (back-of n guards xs ys is len) (subst (HaveRoom (drop n guards)) (sym is_far) (room-drop n guards ts room))
 
--- what both parts come to
+-- The result for both parts.
 pub crossed-of : (id n : ℕ) (guards xs ys these others : List Guarded) (ts near far : List (Option Crossing)) → guards ≡ xs ++ ys → length xs ≡ n → near ≡ take n ts → far ≡ drop n ts
     → guards_of these ≡ guards_along id (guards_of xs) near → guards_of others ≡ guards_along id (guards_of ys) far → guards_of (these ++ others) ≡ guards_along id (guards_of guards) ts
 crossed-of id n guards xs ys these others ts near far is len is_near is_far front back =

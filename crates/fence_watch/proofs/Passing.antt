@@ -1,4 +1,4 @@
--- What the rows of two places tell of the fences that are crossed between them.
+-- What the rows of two positions say about the fences that are crossed between them.
 use Rattle.std.proofs.Common.{◌≡◌, ℕ, zero, suc, ◌≤◌, ◌+◌, Bool, true, false, List, [], ◌∷◌, ◌++◌, length, map, Option, Some, None, refl, sym, ◌∙◌, ap, arith, cond, ◌&&◌}
 use Rattle.std.proofs.lemmas.List.{length-map}
 use Rattle.std.specs.Prelude.{nat_le}
@@ -18,7 +18,7 @@ use Rattle.fence_watch.specs.Passages.{turn, both, turns, turns_of, count_turns,
 use Rattle.fence_watch.specs.Guards.{AreRising, AllRising, behind_by, guards_along}
 use Rattle.fence_watch.proofs.RisingIds.{rising-with_id, rising-without_id}
 
--- both rows of a place
+-- Both rows of a position.
 and-regroup : (a b c d : Bool) → ((a && b) && (c && d)) ≡ (((a && b) && c) && d)
 and-regroup true true c d = refl
 and-regroup true false c d = refl
@@ -29,7 +29,7 @@ marks-some p [] = refl
 marks-some p (f ∷ fences) = λ i.
     and-regroup (nat_le f.region.lo.x p.x) (nat_le p.x f.region.hi.x) (nat_le f.region.lo.y p.y) (nat_le p.y f.region.hi.y) i ∷ marks-some p fences i
 
--- the marks of a place, or of none
+-- The marks of a position, or of none.
 pub marks-place : (p : Point) (fences : List Fence) (column line : List ℕ) → marks_of column ≡ all_marks (row_at p.x (map column_of fences)) → marks_of line ≡ all_marks (row_at p.y (map line_of fences))
     → both (marks_of column) (marks_of line) ≡ all_marks (map (λ (f : Fence). lies_in f (Some p)) fences)
 marks-place p fences column line is_column is_line =
@@ -40,7 +40,7 @@ pub shows-places : (before after : Option Point) (fences : List Fence) (was is :
 shows-places before after fences was is passage pairs here there =
     pairs ∙ (λ i. turns (here i) (there i)) ∙ turns-all (λ (f : Fence). lies_in f before) (λ (f : Fence). lies_in f after) fences
 
--- turns that are filled up tell of no more than the fences that there are
+-- Turns that are filled up say nothing about fences that don't exist.
 along-filled : (id n : ℕ) (before after : Option Point) (guards : List Guard) → length (fences_of guards) ≤ n
     → guards_along id guards (filled None n (map (turn_at before after) (fences_of guards))) ≡ guards_along id guards (map (turn_at before after) (fences_of guards))
 along-filled id n before after [] few = refl
@@ -101,7 +101,7 @@ guards-map : (id : ℕ) (before after : Option Point) (guards : List Guard) → 
 guards-map id before after [] = refl
 guards-map id before after (g ∷ guards) = λ i. one-guard id g (lies_in g.fence before) (lies_in g.fence after) i ∷ guards-map id before after guards i
 
--- what happens along a passage that shows two places
+-- What happens along a passage that shows two positions.
 pub events-shown : (at id : ℕ) (o : Option ℕ) (before after : Option Point) (fences : List Fence) (p : List Pair) → o ≡ Some id → length fences ≤ most_fences → ShowsPassage before after fences p
     → events_along at id fences (turns_of p) ≡ crossings_by at o before after fences
 events-shown at id o before after fences p is few shows =
@@ -130,19 +130,19 @@ count-shown at id o before after fences p is few shows =
     ap count_turns shows ∙ count-all (map (turn_at before after) fences) (omega (arith, len, few)) ∙ count-events at id before after fences
     ∙ ap length (events-map at id before after fences ∙ ap (λ (x : Option ℕ). crossings_by at x before after fences) (sym is))
 
--- where no fence is crossed nothing is told
+-- Without a crossing there is no event.
 pub none-events : (events : List Event) → length events ≡ 0 → events ≡ []
 none-events [] e = refl
 none-events (x ∷ xs) e = absurd (omega (arith, e))
 
--- the fences stay
+-- The fences stay the same.
 pub fences-behind : (o : Option ℕ) (before after : Option Point) (guards : List Guard) → fences_of (map (guard_behind o before after) guards) ≡ fences_of guards
 fences-behind None before after [] = refl
 fences-behind (Some id) before after [] = refl
 fences-behind None before after (g ∷ guards) = ap (λ (l : List Fence). g.fence ∷ l) (fences-behind None before after guards)
 fences-behind (Some id) before after (g ∷ guards) = ap (λ (l : List Fence). g.fence ∷ l) (fences-behind (Some id) before after guards)
 
--- ids that rise go on rising, where each fence holds the object exactly where it was
+-- Rising ids stay rising, if a fence holds the object if and only if the object was in it.
 pub rising-behind : (o : Option ℕ) (before after : Option Point) (guards : List Guard) → HoldsBefore o before guards → AllRising guards → AllRising (map (guard_behind o before after) guards)
 rising-behind None before after [] holds rising = tt
 rising-behind None before after (g ∷ guards) holds rising = (rising.0, rising-behind None before after guards tt rising.1)

@@ -1,4 +1,4 @@
--- Rising ids: what a search finds in them, and edits that leave them rising.
+-- Rising ids: what a search finds in them, and changes that leave them rising.
 use Rattle.std.proofs.Common.{◌≡◌, ℕ, zero, suc, ◌<◌, ◌≤◌, length, Bool, true, false, not, List, [], ◌∷◌, get_or, refl, subst, arith, cond, ◌==◌, ◌||◌}
 use Rattle.std.specs.Prelude.{nat_lt, nat_le}
 use Rattle.std.specs.List.{insert, remove, AllByRecursion}
@@ -23,7 +23,7 @@ never_fall (x ∷ xs) rising zero (suc j) d le lt = let above = above_at x xs j 
 never_fall (x ∷ xs) rising (suc i) zero d le lt = absurd (omega (arith, le))
 never_fall (x ∷ xs) rising (suc i) (suc j) d le lt = never_fall xs rising.1 i j d (omega (arith, le)) (omega (arith, lt))
 
--- an id goes behind those at most it
+-- An id goes after those that are at most as great.
 pub insert-with_id : (id : ℕ) (xs : List ℕ) (i : ℕ) → i ≤ length xs → ((k d : ℕ) → k < i → nat_le (get_or xs k d) id ≡ true) → ((k d : ℕ) → i ≤ k → k < length xs → nat_le (get_or xs k d) id ≡ false)
     → insert xs i id ≡ with_id id xs
 insert-with_id id [] zero le less greater = refl
@@ -53,7 +53,7 @@ remove-without_id (x ∷ xs) (suc i) id d rising lt same =
     let above : x < get_or xs i d = above_at x xs i d rising.0 (omega (arith, lt)) in
     grind (arith, nat_tests, common_steps)
 
--- an id between two neighbours, or at an end, isn't there
+-- An id between two neighbours, or beyond an end, isn't there.
 pub without-parted : (id : ℕ) (xs : List ℕ) (i : ℕ) → i ≤ length xs → ((k : ℕ) → k < i → get_or xs k 0 < id) → ((k : ℕ) → i ≤ k → k < length xs → id < get_or xs k 0) → without_id id xs ≡ xs
 without-parted id [] i le less greater = refl
 without-parted id (x ∷ xs) zero le less greater =
@@ -65,7 +65,7 @@ without-parted id (x ∷ xs) (suc i) le less greater =
     let rest : without_id id xs ≡ xs = without-parted id xs i (omega (arith, le)) (λ k lt. less (suc k) (omega (arith, lt))) (λ k low lt. greater (suc k) (omega (arith, low)) (omega (arith, lt))) in
     grind (arith, nat_tests, common_steps)
 
--- edits keep what is above
+-- Changes keep what is above.
 Above-with_id : (a id : ℕ) (xs : List ℕ) → a < id → Above a xs → Above a (with_id id xs)
 Above-with_id a id [] lt above = (lt, tt)
 Above-with_id a id (x ∷ xs) lt above = by_test (nat_lt id x) (Above-with_id a id xs lt above.1)
@@ -86,7 +86,7 @@ Above-without_id a id (x ∷ xs) above = by_test (not (x == id)) (Above-without_
     by_test true rest = (above.0, rest)
     by_test false rest = rest
 
--- an id that isn't there goes between its neighbours
+-- An id that isn't there goes between its neighbours.
 pub rising-with_id : (id : ℕ) (xs : List ℕ) → has_id id xs ≡ false → AreRising xs → AreRising (with_id id xs)
 rising-with_id id [] none rising = (tt, tt)
 rising-with_id id (x ∷ xs) none rising = by_test (nat_lt id x) refl (x == id) refl none (λ later. rising-with_id id xs later rising.1)

@@ -1,4 +1,4 @@
--- Fences that were read one behind the other.
+-- Fences that were read one after the other.
 use Rattle.std.proofs.Common.{◌≡◌, ◌≢◌, ◌<◌, ◌==◌, ◌||◌, ◌+◌, ℕ, Bool, true, false, cond, List, [], ◌∷◌, ◌++◌, length, Option, Some, None, Ok, Err, refl, sym, subst, arith, length-append}
 use Rattle.std.proofs.lemmas.Bool.{eqb-false}
 use Rattle.std.specs.List.{AllByRecursion}
@@ -14,7 +14,7 @@ use Rattle.fence_watch.specs.declared.fences.Fence.{Fence}
 use Rattle.fence_watch.specs.Fences.{AreDistinct, AreFences, IsFence, has_fence}
 use Rattle.fence_watch.specs.FenceRows.{corner_rules, fence_at, fence_of, fence_table, fences_of_text}
 
--- the fields that stand at five places are all of five
+-- A record of five fields has only the fields at these five places.
 pub five_fields : (fields : List (List ℕ)) (a b c d e : List ℕ) → length fields ≡ 5 → field_at fields 0 ≡ Some a → field_at fields 1 ≡ Some b → field_at fields 2 ≡ Some c → field_at fields 3 ≡ Some d → field_at fields 4 ≡ Some e
     → fields ≡ a ∷ b ∷ c ∷ d ∷ e ∷ []
 unfolding field_at
@@ -26,12 +26,12 @@ five_fields (z0 ∷ z1 ∷ z2 ∷ []) a b c d e n h0 h1 h2 h3 h4 = cc h3
 five_fields (z0 ∷ z1 ∷ z2 ∷ z3 ∷ []) a b c d e n h0 h1 h2 h3 h4 = cc h4
 five_fields (z0 ∷ z1 ∷ z2 ∷ z3 ∷ z4 ∷ z5 ∷ fields) a b c d e n h0 h1 h2 h3 h4 = absurd (omega arith)
 
--- a value that came, where no column is at fault
+-- A value comes only if no column is faulty.
 unless-none : (o : Option ℕ) (value v : Fence) → unless o value ≡ Ok v → (o ≡ None) × (v ≡ value)
 unless-none None value v e = let same : value ≡ v = cc e in (refl, sym same)
 unless-none (Some column) value v e = cc e
 
--- the first column and those behind it
+-- The first column and those after it.
 no-fault : (column : ℕ) (rule : Rule) (rules : List Rule) (field : List ℕ) (fields : List (List ℕ)) → first_fault column (rule ∷ rules) (field ∷ fields) ≡ None → (keeps rule field ≡ true) × (first_fault (column + 1) rules fields ≡ None)
 no-fault column rule rules field fields e = by_test (keeps rule field) e
   where
@@ -39,7 +39,7 @@ no-fault column rule rules field fields e = by_test (keeps rule field) e
     by_test true is = (refl, is)
     by_test false is = cc is
 
--- a fence that no earlier one is like
+-- A fence whose id no earlier one has.
 pub record IsNew (earlier : List Fence) (f : Fence) : Type 0 where
   pub fence : IsFence f
   pub other : has_fence f.id earlier ≡ false
@@ -68,7 +68,7 @@ fence-at earlier id x y a b f fits new e =
       other = new;
     })
 
--- what a record says is a fence with an id of its own
+-- The fence of a record has an id of its own.
 pub fence-new : (earlier : List Fence) (fields : List (List ℕ)) (f : Fence) → fence_of earlier fields ≡ Ok f → IsNew earlier f
 fence-new earlier (id ∷ x ∷ y ∷ a ∷ b ∷ []) f e = by_id (keeps id_rule id) refl e
   where
@@ -100,7 +100,7 @@ distinct-more (g ∷ fences) f distinct other =
     let parts = or-parts (g.id == f.id) (has_fence f.id fences) other in
     (all-more (λ (h : Fence). h.id ≢ g.id) fences f distinct.0 (λ same. eqb-false g.id f.id parts.0 (sym same)), distinct-more fences f distinct.1 parts.1)
 
--- one fence more
+-- One more fence.
 pub fence-more : (fences : List Fence) (f : Fence) → length fences < 256 → IsNew fences f → AreFences fences → AreFences (fences ++ f ∷ [])
 fence-more fences f few new good = record {
   each = all-more IsFence fences f good.each new.fence;
@@ -111,6 +111,6 @@ fence-more fences f few new good = record {
 fences-more : (fences : List Fence) (fields : List (List ℕ)) (f : Fence) → length fences < 256 → fence_of fences fields ≡ Ok f → AreFences fences → AreFences (fences ++ f ∷ [])
 fences-more fences fields f few is good = fence-more fences f few (fence-new fences fields f is) good
 
--- the fences of a text keep the rules
+-- The fences of a text keep the rules.
 pub read-fences : (bytes : List ℕ) (fences : List Fence) → fences_of_text bytes ≡ Ok fences → AreFences fences
 read-fences bytes fences is = table-keeps fence_table AreFences fences-more bytes fences (record { each = tt; distinct = tt; most = omega arith }) is

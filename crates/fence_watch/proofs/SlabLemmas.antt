@@ -1,4 +1,4 @@
--- What the edge before a number tells of it.
+-- What the edge before a number says about the number.
 use Rattle.std.proofs.Common.{◌≡◌, ℕ, zero, suc, ◌≤◌, ◌<◌, ◌+◌, ◌-◌, ◌^◌, Bool, true, false, List, [], ◌∷◌, ◌++◌, length, map, take, get_or, refl, sym, ◌∙◌, ap, arith, ◌&&◌, cond, append_assoc, append-nil, add-one}
 use Rattle.std.specs.Prelude.{nat_le, nat_lt}
 use Rattle.std.specs.List.{Contains}
@@ -11,7 +11,7 @@ use Rattle.fence_watch.specs.declared.slabs.Span.{Span}
 use Rattle.fence_watch.specs.Marks.{marks_of, all_marks}
 use Rattle.fence_watch.specs.Slabs.{spans, row_at, own_edges, edges_of, TellSpans, IsSlabOf}
 
--- the edges of one span more
+-- The edges with one more span.
 edges-suc : (list : List Span) (i : ℕ) (d : Span) → i < length list → edges_of (take (suc i) list) ≡ edges_of (take i list) ++ own_edges (get_or list i d)
 edges-suc [] i d lt = absurd (omega (arith, lt))
 edges-suc (s ∷ list) zero d lt = append-nil (own_edges s)
@@ -24,7 +24,7 @@ edges-more list i d lt = ap (λ n. edges_of (take n list)) (add-one i) ∙ edges
 pub pushed-more : (list : List Span) (i : ℕ) (d : Span) (old new : List ℕ) → i < length list → old ≡ 0 ∷ edges_of (take i list) → new ≡ old ++ own_edges (get_or list i d) → new ≡ 0 ∷ edges_of (take (i + 1) list)
 pushed-more list i d old new lt before pushed = pushed ∙ ap (λ (l : List ℕ). l ++ own_edges (get_or list i d)) before ∙ ap (λ (l : List ℕ). 0 ∷ l) (sym (edges-more list i d lt))
 
--- an edge that is at most a number, with no edge of this span between them
+-- An edge that is at most a number, with no edge of this span between them.
 pub record IsSlab (s : Span) (edge at : ℕ) : Type 0 where
   pub below : edge ≤ at
   pub first : s.from ≤ at → s.from ≤ edge
@@ -36,11 +36,11 @@ first-same lo edge at below first = grind (arith, nat_tests)
 last-same : (hi edge at : ℕ) → edge ≤ at → (hi < at → hi < edge) → nat_le edge hi ≡ nat_le at hi
 last-same hi edge at below last = grind (arith, nat_tests)
 
--- a number is in a span exactly where the edge of its slab is
+-- A number is in a span if and only if the edge of its slab is.
 pub slab-same : (s : Span) (edge at : ℕ) → IsSlab s edge at → spans edge s ≡ spans at s
 slab-same s edge at slab = λ i. first-same s.from edge at slab.below slab.first i && last-same s.to edge at slab.below slab.last i
 
--- the edges before a number and behind it
+-- The edges before a number and after it.
 pub record IsCut (edges : List ℕ) (at behind : ℕ) : Type 0 where
   pub within : behind ≤ length edges
   pub before : (k d : ℕ) → k < behind → nat_le (get_or edges k d) at ≡ true
@@ -57,7 +57,7 @@ default-same [] k d e lt = absurd (omega (arith, lt))
 default-same (x ∷ xs) zero d e lt = refl
 default-same (x ∷ xs) (suc k) d e lt = default-same xs k d e (omega (arith, lt))
 
--- an edge at most a number comes before it
+-- An edge that is at most a number comes before it.
 pub comes-before : (edges : List ℕ) (at behind v : ℕ) → IsCut edges at behind → Contains edges v → v ≤ at → (k : ℕ) × (k < behind) × (k < length edges) × (get_or edges k v ≡ v)
 comes-before edges at behind v cut there le = (there.0, by_test (nat_le behind there.0) refl, there.1, there.2)
   where
@@ -67,7 +67,7 @@ comes-before edges at behind v cut there le = (there.0, by_test (nat_le behind t
         absurd (omega (arith, after, there.2, le))
     by_test false e = above behind there.0 e
 
--- the last edge before it is at least each such edge
+-- The last edge before it is at least each such edge.
 pub last-before : (edges : List ℕ) (at behind v d : ℕ) → IsNonDecreasing edges → IsCut edges at behind → Contains edges v → v ≤ at → v ≤ get_or edges (behind - 1) d
 last-before edges at behind v d sorted cut there le =
     let k = comes-before edges at behind v cut there le in
@@ -88,7 +88,7 @@ own-behind s lt = by_test (nat_lt (s.to + 1) (2 ^ 32)) (lt-ltb (s.to + 1) (2 ^ 3
     by_test true e = (1, omega arith, refl)
     by_test false e = absurd (cc e)
 
--- the row of the last edge before a number is that of the number
+-- The row of the last edge before a number is that of the number.
 pub row-same : (list : List Span) (edges : List ℕ) (at behind d : ℕ) → at < 2 ^ 32 → IsNonDecreasing edges → IsCut edges at behind → 0 < behind
     → ((v : ℕ) → Contains (edges_of list) v → Contains edges v) → row_at (get_or edges (behind - 1) d) list ≡ row_at at list
 row-same [] edges at behind d fits sorted cut some all = refl
@@ -104,7 +104,7 @@ row-same (s ∷ list) edges at behind d fits sorted cut some all =
     } in
     λ i. slab-same s edge at here i ∷ row-same list edges at behind d fits sorted cut some (λ v there. all v (Contains-append_right (own_edges s) (edges_of list) v there)) i
 
--- the row at an index, where rows are those of the edges
+-- The row at an index, if rows are those of the edges.
 pub row-at : (list : List Span) (edges : List ℕ) (rows : List (List ℕ)) (i d : ℕ) (e : List ℕ)
     → map marks_of rows ≡ map (λ edge. all_marks (row_at edge list)) edges → i < length edges → marks_of (get_or rows i e) ≡ all_marks (row_at (get_or edges i d) list)
 row-at list [] rows i d e told lt = absurd (omega (arith, lt))
@@ -118,7 +118,7 @@ to-le a b le = grind (arith, nat_tests)
 to-not_le : (a b : ℕ) → b < a → nat_le a b ≡ false
 to-not_le a b lt = grind (arith, nat_tests)
 
--- the edges up to that of a number's slab are at most the number, and those behind it aren't
+-- The edges up to that of a number's slab are at most the number, and those after it are greater.
 pub cut-of : (edges : List ℕ) (at slab : ℕ) → IsNonDecreasing edges → IsSlabOf edges at slab → IsCut edges at (slab + 1)
 cut-of edges at slab sorted is = record {
   within = omega (arith, is.within);
@@ -136,7 +136,7 @@ cut-of edges at slab sorted is = record {
 has-zero : (list : List Span) (edges : List ℕ) → IsPermutation (0 ∷ edges_of list) edges → Contains edges 0
 has-zero list edges all = Contains-permutation (0 ∷ edges_of list) edges 0 all (0, omega arith, refl)
 
--- there is an edge, and the first one is at most any number
+-- There is an edge, and the first one is at most any number.
 pub some-edge : (list : List Span) (edges : List ℕ) → IsPermutation (0 ∷ edges_of list) edges → 1 ≤ length edges
 some-edge list edges all = let there = has-zero list edges all in omega (arith, there.1)
 
@@ -146,7 +146,7 @@ first-edge list edges at sorted all =
     let rises : get_or edges 0 0 ≤ get_or edges there.0 0 = sorted 0 there.0 0 (omega arith) there.1 in
     omega (arith, rises, there.2)
 
--- the row of a number's slab is that of the number
+-- The row of a number's slab is that of the number.
 pub row-of : (list : List Span) (edges : List ℕ) (rows : List (List ℕ)) (at slab : ℕ) (e : List ℕ) → TellSpans list edges rows → at < 2 ^ 32
     → IsSlabOf edges at slab → marks_of (get_or rows slab e) ≡ all_marks (row_at at list)
 row-of list edges rows at slab e tell fits is =

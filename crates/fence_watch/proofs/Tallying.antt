@@ -1,4 +1,4 @@
--- A tally that follows the cells of a log goes on following them.
+-- A tally that follows the cells of a log continues to follow them.
 use Rattle.std.proofs.Common.{◌≡◌, ℕ, zero, suc, ◌+◌, ◌-◌, ◌≤◌, ◌<◌, length, Bool, true, false, List, [], ◌∷◌, ◌++◌, map, Option, Some, None, refl, sym, ◌∙◌, ap, subst, arith, cond, ◌==◌, ◌||◌, not, append_assoc, append-nil, take, drop}
 use Rattle.std.specs.Prelude.{nat_le, nat_lt}
 use Rattle.std.specs.Option.{option_map_or}
@@ -40,7 +40,7 @@ use Rattle.fence_watch.proofs.RisingIds.{Above, without-above}
 use Rattle.fence_watch.proofs.Insides.{first-inside, more, has-inside}
 use Rattle.fence_watch.proofs.Following.{after-snoc, world-of_state, rising-after, crossings-snoc, guard-behind, next-first}
 
--- how long a list with one id more or less is
+-- The length of a list with one id more or less.
 length-with_id : (id : ℕ) (xs : List ℕ) → length (with_id id xs) ≡ length xs + 1
 length-with_id id [] = refl
 length-with_id id (x ∷ xs) = by_test (nat_lt id x) (length-with_id id xs)
@@ -60,7 +60,7 @@ length-without_id id (x ∷ xs) has rising = by_test (x == id) refl has (λ late
         omega (arith, ap length gone)
     by_test false same there rest = omega (arith, rest there)
 
--- the ids inside a fence rise
+-- The ids inside a fence rise.
 inside-above : (f : Fence) (a : ℕ) (ms : World) → IsAbove a (places_of ms) → Above a (inside_of ms f)
 inside-above f a [] above = tt
 inside-above f a (m ∷ ms) above = subst (Above a) (sym (first-inside f m ms)) (by_test (has_point f.region m.at) (inside-above f a ms above.1))
@@ -77,7 +77,7 @@ inside-rising f (m ∷ ms) rising = subst AreRising (sym (first-inside f m ms)) 
     by_test true rest = (inside-above f m.id ms rising.0, rest)
     by_test false rest = rest
 
--- no more are inside than there are
+-- No more objects are inside than there are.
 length-inside : (f : Fence) (ms : World) → length (inside_of ms f) ≤ length ms
 length-inside f [] = omega arith
 length-inside f (m ∷ ms) = subst (λ (l : List ℕ). length l ≤ suc (length ms)) (sym (first-inside f m ms)) (by_test (has_point f.region m.at) (length-inside f ms))
@@ -94,7 +94,7 @@ length-less id (n ∷ ns) = by_test (not (n.id == id)) (length-less id ns)
     by_test true le = omega (arith, le)
     by_test false le = omega (arith, le)
 
--- a world after cells has no more objects than there may be
+-- A world after cells has at most `most_members` objects.
 room : (n : ℕ) → nat_le most_members n ≡ false → n < most_members
 room n e = grind (arith, nat_tests)
 
@@ -129,7 +129,7 @@ pub few-after : (world : World) (cells : List Cell) → length world ≤ most_me
 few-after world [] few = few
 few-after world (c ∷ cells) few = few-after (world_behind world c) cells (few-behind world c few)
 
--- how many are inside behind a step
+-- How many objects are inside after a step.
 length-behind : (id : ℕ) (before after : Option Point) (f : Fence) (ids : List ℕ) → has_id id ids ≡ lies_in f before → AreRising ids → length ids < 18446744073709551615
     → length (inside_behind id before after f ids) ≡ number_behind before after f (length ids)
 length-behind id before after f ids has rising few = by_tests (lies_in f before) (lies_in f after) has
@@ -141,7 +141,7 @@ length-behind id before after f ids has rising few = by_tests (lies_in f before)
     by_tests false true e = length-with_id id ids ∙ ap (λ b. cond b (length ids + 1) (length ids)) (sym (lt-ltb (length ids) 18446744073709551615 few))
     by_tests false false e = refl
 
--- a count behind a cell is that of the world behind it
+-- A count after a cell is the count of the world after it.
 count-behind : (world : World) (c : Cell) (f : Fence) → IsRising (places_of world) → length world ≤ most_members
     → count_in (world_behind world c) f ≡ count_behind (object_of c) (place_in world (object_of c)) (place_in (world_behind world c) (object_of c)) (count_in world f)
 count-behind world c f rising few =
@@ -161,13 +161,13 @@ pub counted-in : (world : World) (fences : List Fence) → fences_counted (map (
 counted-in world [] = refl
 counted-in world (f ∷ fences) = ap (λ (l : List Fence). f ∷ l) (counted-in world fences)
 
--- a step of an object between its places in a world and in the world behind it
+-- A step of an object between its positions in a world and in the world after it.
 pub tallies-counts : (world : World) (c : Cell) (fences : List Fence) (at : ℕ) (before after : Option Point) (old new : TallyView) → IsRising (places_of world) → length world ≤ most_members → old.counts ≡ map (count_in world) fences
     → before ≡ place_in world (object_of c) → after ≡ place_in (world_behind world c) (object_of c) → TalliesBy at (object_of c) before after old new → new.counts ≡ map (count_in (world_behind world c)) fences
 tallies-counts world c fences at before after old new rising few counts_are is_before is_after s =
     s.counts ∙ (λ i. map (count_behind (object_of c) (is_before i) (is_after i)) (counts_are i)) ∙ sym (counts-behind world c fences rising few)
 
--- a step along the next cell
+-- A step along the next cell.
 pub tallies-next : (at : ℕ) (start : World) (taken : List Event) (cells : List Cell) (fences : List Fence) (walked : Walked) (old new : TallyView)
     → TalliesFrom at start taken cells fences old → IsNextFrom at start cells walked → Tallies walked old new → TalliesFrom at start taken (cells ++ walked.cell ∷ []) fences new
 tallies-next at start taken cells fences walked old new t n s =
@@ -185,16 +185,16 @@ tallies-next at start taken cells fences walked old new t n s =
           ∙ ap (λ (w : World). map (count_in w) fences) (sym (after-snoc start cells walked.cell));
     }
 
--- a step along the next cell of a log
+-- A step along the next cell of a log.
 pub tallies-step : (w : ℕ) (taken : List Event) (cells : List Cell) (fences : List Fence) (walked : Walked) (old new : TallyView)
     → TalliesCells taken cells fences old → IsNextWalked w cells walked → Tallies walked old new → TalliesCells taken (cells ++ walked.cell ∷ []) fences new
 tallies-step w taken cells fences walked old new t n s = tallies-next 0 [] taken cells fences walked old new t (next-first w cells walked n) s
 
--- in the words of the state that the cells leave
+-- The same, in terms of the state after the cells.
 pub counts-told : (w : ℕ) (taken : List Event) (cells : List Cell) (fences : List Fence) (v : TallyView) → TalliesCells taken cells fences v → v.counts ≡ map (count_in (state_of w cells).world) fences
 counts-told w taken cells fences v t = t.counts ∙ ap (λ (world : World). map (count_in world) fences) (sym (world-of_state w cells))
 
--- turns that are filled up tell of no more than the fences that there are
+-- Turns that are filled up say nothing about fences that don't exist.
 along-filled : (n : ℕ) (before after : Option Point) (counts : List FenceCount) → length (fences_counted counts) ≤ n
     → along count_by counts (filled None n (map (turn_at before after) (fences_counted counts))) ≡ along count_by counts (map (turn_at before after) (fences_counted counts))
 along-filled n before after [] few = refl
@@ -221,7 +221,7 @@ counts-shown : (id : ℕ) (o : Option ℕ) (before after : Option Point) (counts
 counts-shown id o before after counts p is few shows =
     ap (along count_by counts) shows ∙ along-all before after counts few ∙ along-map id before after counts ∙ ap (λ (x : Option ℕ). map (count_behind x before after) counts) (sym is)
 
--- what a passage that shows both places of a step tells of its events and of the counts behind it
+-- What a passage that shows both positions of a step says about its events and the counts after it.
 pub record Said (went : Went) (counts : List FenceCount) (p : List Pair) : Type 0 where
   pub count : count_turns (turns_of p) ≡ length (crossings_of went.at went.id went.before went.after (fences_counted counts))
   pub told : events_along went.at went.id (fences_counted counts) (turns_of p) ≡ crossings_of went.at went.id went.before went.after (fences_counted counts)
@@ -240,7 +240,7 @@ Goes went old new = TalliesBy went.at (Some went.id) went.before went.after old 
 abbrev pub IsPastIn : Went → TallyView → Type 0
 IsPastIn went old = IsPastBy went.at (Some went.id) went.before went.after old
 
--- where no fence is crossed the tally stays as it is
+-- Without a crossing the tally stays unchanged.
 pub stays : (went : Went) (v : TallyView) (p : List Pair) → Said went v.counts p → count_turns (turns_of p) ≡ 0 → Goes went v v
 stays went v p k crossed =
     let none : crossings_of went.at went.id went.before went.after (fences_counted v.counts) ≡ [] = none-events (crossings_of went.at went.id went.before went.after (fences_counted v.counts)) (sym k.count ∙ crossed) in
@@ -255,11 +255,11 @@ not-past went crossed v p k counts fits over = omega (arith, k.count, counts, fi
 pub is-past : (went : Went) (crossed : ℕ) (v : TallyView) (p : List Pair) → Said went v.counts p → crossed ≡ count_turns (turns_of p) → most_events < length v.events + crossed → IsPastIn went v
 is-past went crossed v p k counts past = omega (arith, k.count, counts, past)
 
--- a list that is written over as a whole
+-- A list that is written over as a whole.
 pub rewritten : {X : Type 0} (n : ℕ) (new old : List X) → length new ≡ n → take n (new ++ drop (length new) old) ≡ new
 rewritten n new old e = take-append-le n new (drop (length new) old) (omega (arith, e)) ∙ take_all n new (omega (arith, e))
 
--- the fences stay
+-- The fences stay the same.
 pub fences-behind : (o : Option ℕ) (before after : Option Point) (counts : List FenceCount) → fences_counted (map (count_behind o before after) counts) ≡ fences_counted counts
 fences-behind None before after [] = refl
 fences-behind (Some id) before after [] = refl
@@ -275,7 +275,7 @@ keeps-tallied went old new chart tallies keeps fits =
       events = fits;
     }
 
--- a cell of a split moves nobody
+-- A cell of a split moves no object.
 same-counts : (counts : List FenceCount) → counts ≡ map (λ (c : FenceCount). c) counts
 same-counts [] = refl
 same-counts (c ∷ counts) = ap (λ (l : List FenceCount). c ∷ l) (same-counts counts)

@@ -1,4 +1,4 @@
--- A tally that follows a world, behind an operation that changed an object.
+-- A tally that follows a world, after an operation that changed an object.
 use Rattle.std.proofs.Common.{◌≡◌, ℕ, Bool, true, false, List, [], ◌∷◌, Option, Some, None, refl, sym, ◌∙◌, ap, subst, cond}
 use Rattle.std.specs.Prelude.{nat_lt}
 use Rattle.std.specs.Option.{option_map, option_map_or}
@@ -24,7 +24,7 @@ use Rattle.fence_watch.specs.Watches.{WatchView, HoldsBefore, HoldsWorld, StepsB
 use Rattle.fence_watch.proofs.Following.{holds-world, moved-there, rising-after, steps-guards}
 use Rattle.fence_watch.proofs.Tallying.{few-after, tallies-counts}
 
--- an object, with its places in a world and in the one behind
+-- An object, with its positions in a world and in the next one.
 record AreAt (world next : World) (object id : ℕ) (before after : Option Point) : Type 0 where
   same : object ≡ id
   before_is : before ≡ place_in world (Some object)
@@ -66,7 +66,7 @@ drop-at object world id before after (Some p) e step =
     let same = same_Some _ _ step.1 in
     record { same = ap (λ (c : Change). c.id) same; before_is = sym (ap (λ (c : Change). c.before) same) ∙ ap at_of (sym e); after_is = sym (ap (λ (c : Change). c.after) same) ∙ ap at_of (sym none) }
 
--- the same of a cell that stands for the operation
+-- The same for a cell that records the operation.
 goes-on : (world : World) (c : Cell) (object : ℕ) (fences : List Fence) (at id : ℕ) (before after : Option Point) (old new : TallyView) → object_of c ≡ Some object → FollowsWorld world fences old
     → AreAt world (world_behind world c) object id before after → TalliesBy at (Some id) before after old new → FollowsWorld (world_behind world c) fences new
 goes-on world c object fences at id before after old new is follows are tallies =
@@ -90,7 +90,7 @@ holds-on world c object fences at id before after old new is holds are steps =
           (subst (λ (o : Option ℕ). StepsBy at o before after old new) named steps);
     }
 
--- the cell that stands for an operation which changed an object
+-- The cell that records an operation which changed an object.
 record StandsFor (world : World) (o : Op) (id : ℕ) (before after : Option Point) (c : Cell) : Type 0 where
   object : ℕ
   is : object_of c ≡ Some object
@@ -143,7 +143,7 @@ holds-step world o fences at id before after old new holds step steps =
     subst (λ (next : World). HoldsWorld next fences new) stands.1.behind
     (holds-on world stands.0 stands.1.object fences at id before after old new stands.1.is holds stands.1.are steps)
 
--- a watch that holds a world may make the step
+-- A watch that holds a world may make the step.
 pub holds-place : (world : World) (o : Op) (fences : List Fence) (id : ℕ) (before after : Option Point) (view : WatchView) → HoldsWorld world fences view → IsStepOf id before after o (answer_of world o)
     → HoldsBefore (Some id) before view.guards
 holds-place world o fences id before after view holds step =

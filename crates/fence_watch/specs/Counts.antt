@@ -1,4 +1,4 @@
--- How many are inside each fence, and what crossings make of that.
+-- How many objects are inside each fence, and how crossings change that number.
 use Rattle.std.specs.Prelude.{ℕ, ◌+◌, ◌-◌, nat_lt, List, length, map, if◌then◌else◌, Option, Some, None}
 use Rattle.fence_watch.specs.declared.fences.Fence.{Fence}
 use Rattle.fence_watch.specs.declared.fences.Event.{Event}
@@ -12,15 +12,15 @@ use Rattle.fence_watch.specs.Passages.{along, turns_in, turns_of, events_along}
 abbrev pub fences_counted : List FenceCount → List Fence
 fences_counted counts = map (λ (c : FenceCount). c.fence) counts
 
--- a fence that nobody is inside
+-- A fence with no object inside.
 abbrev pub uncounted : Fence → FenceCount
 uncounted f = record { fence = f; inside = 0 }
 
--- one more, as far as numbers of 64 bits go
+-- One more, as far as numbers of 64 bits go.
 abbrev pub one_more : ℕ → ℕ
 one_more n = if nat_lt n 18446744073709551615 then n + 1 else n
 
--- how many there are behind a crossing, or none
+-- The number after a crossing, or after none.
 abbrev pub number_by : ℕ → Option Crossing → ℕ
 number_by n None = n
 number_by n (Some Enter) = one_more n
@@ -29,14 +29,14 @@ number_by n (Some Leave) = n - 1
 abbrev pub count_by : FenceCount → Option Crossing → FenceCount
 count_by c t = record { fence = c.fence; inside = number_by c.inside t }
 
--- what a step along a passage makes of counts, and what it tells
+-- How a step along a passage changes counts, and its events.
 abbrev pub counted_by : List FenceCount → List Pair → List FenceCount
 counted_by counts passage = along count_by counts (turns_of passage)
 
 abbrev pub said_by : Step → List FenceCount → List Pair → List Event
 said_by step counts passage = events_along step.at step.id (fences_counted counts) (turns_of passage)
 
--- the same of as few fences as two words have bits
+-- The same for as few fences as two words have bits.
 abbrev pub counted_in : List FenceCount → Pair → List FenceCount
 counted_in counts p = along count_by counts (turns_in (length counts) p)
 

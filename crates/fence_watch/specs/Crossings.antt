@@ -1,4 +1,4 @@
--- Who enters and leaves fences along the cells of a log.
+-- Which objects enter and leave fences along the cells of a log.
 use Rattle.std.specs.Prelude.{◌≡◌, ℕ, ◌+◌, List, [], ◌∷◌, ◌++◌, length, if◌then◌else◌, Option, Some, None}
 use Rattle.std.specs.List.{flat_map}
 use Rattle.zorder.specs.declared.points.Point.{Point}
@@ -14,7 +14,7 @@ use Rattle.recovery.specs.declared.walked.Walked.{Walked}
 use Rattle.recovery.specs.Walks.{object_of, place_in}
 use Rattle.fence_watch.specs.Fences.{lies_in}
 
--- the world after a cell
+-- The world after a cell.
 abbrev pub world_behind : World → Cell → World
 world_behind world (cell.Put id at moment) = after_of world (op.Put id at moment)
 world_behind world (cell.Move id at moment) = after_of world (op.Move id at moment)
@@ -23,40 +23,41 @@ world_behind world (cell.Begin number name) = world
 world_behind world (cell.Install number) = world
 world_behind world (cell.Abandon number) = world
 
--- the world after cells
+-- The world after cells.
 abbrev pub world_after_cells : World → List Cell → World
 world_after_cells world [] = world
 world_after_cells world (c ∷ cells) = world_after_cells (world_behind world c) cells
 
--- the event of one fence where an object goes from a place to another one
+-- The event of one fence, if an object goes from one position to another.
 abbrev pub crossing_of : ℕ → ℕ → Option Point → Option Point → Fence → List Event
 crossing_of at id before after f =
     if lies_in f before then (if lies_in f after then [] else record { at = at; crossing = Leave; id = id; fence = f.id } ∷ [])
     else (if lies_in f after then record { at = at; crossing = Enter; id = id; fence = f.id } ∷ [] else [])
 
--- the events of all fences, in their order
+-- The events of all fences, in their order.
 abbrev pub crossings_of : ℕ → ℕ → Option Point → Option Point → List Fence → List Event
 crossings_of at id before after fences = flat_map (crossing_of at id before after) fences
 
--- the events where an object, if there is one, goes from one place to another
+-- The events, if an object goes from one position to another. There may be no object.
 abbrev pub crossings_by : ℕ → Option ℕ → Option Point → Option Point → List Fence → List Event
 crossings_by at None before after fences = []
 crossings_by at (Some id) before after fences = crossings_of at id before after fences
 
--- the events of a cell, which has this number and stands behind this world
+-- The events of the cell with this number, which comes after this world.
 abbrev pub cell_crossings : ℕ → World → Cell → List Fence → List Event
 cell_crossings at world c fences = crossings_by at (object_of c) (place_in world (object_of c)) (place_in (world_behind world c) (object_of c)) fences
 
--- the crossings of cells, from a world and the number of the first cell on
+-- The crossings of cells, from a world and the number of the first cell on.
 abbrev pub crossings_from : ℕ → World → List Cell → List Fence → List Event
 crossings_from at world [] fences = []
 crossings_from at world (c ∷ cells) fences = cell_crossings at world c fences ++ crossings_from (at + 1) (world_behind world c) cells fences
 
--- the crossings of the cells of a log
+-- The crossings of the cells of a log.
 abbrev pub crossings : List Cell → List Fence → List Event
 crossings cells fences = crossings_from 0 [] cells fences
 
--- what a walk tells of the next cell behind these, the first of which has this number and stands behind this world
+-- What a walk returns of the next cell after these. The first of these has the number `first` and comes after this
+-- world.
 pub record IsNextFrom (first : ℕ) (world : World) (cells : List Cell) (walked : Walked) : Type 0 where
   pub at : walked.at ≡ first + length cells
   pub before : walked.before ≡ place_in (world_after_cells world cells) (object_of walked.cell)

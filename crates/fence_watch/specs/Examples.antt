@@ -1,4 +1,4 @@
--- A worked walk: an object is put into one fence, moves to another one, and is dropped.
+-- A worked walk: an object is put into one fence, moves to another one, and is removed.
 use Rattle.std.specs.Prelude.{◌≡◌, List, [], ◌∷◌}
 use Rattle.std.proofs.Common.{refl}
 use Rattle.zorder.specs.Examples.{pt}
@@ -26,15 +26,15 @@ crossed = refl
 none_inside : inside_of (world_after_cells [] cells) first ≡ []
 none_inside = refl
 
--- after the move the object is inside the second one alone
+-- After the move the object is inside the second fence alone.
 one_inside : inside_of (world_after_cells [] (cell.Put 7 (pt 3 5) 10 ∷ cell.Move 7 (pt 8 8) 20 ∷ [])) second ≡ 7 ∷ []
 one_inside = refl
 
--- a cell of a split moves nobody, and counts
+-- A cell of a split moves no object, but has a number.
 split_between : crossings (cell.Begin 1 [] ∷ cell.Put 7 (pt 3 5) 10 ∷ []) (first ∷ []) ≡ record { at = 1; crossing = Enter; id = 7; fence = 1 } ∷ []
 split_between = refl
 
--- from a world on, and with a number of its own
+-- From a world on, with a number of its own.
 goes_on : crossings_from 40 (record { id = 7; at = pt 3 5; moment = 10 } ∷ []) (cell.Move 7 (pt 8 8) 20 ∷ []) (first ∷ [])
     ≡ record { at = 40; crossing = Leave; id = 7; fence = 1 } ∷ []
 goes_on = refl

@@ -21,12 +21,12 @@ two_fences : fences_of_text (header ++ codes "1,0,0,5,5\n2,4,4,9,9\n") ≡ Ok (f
 unfolding rows_of_text records_from next_record is_between is_number
 two_fences = refl
 
--- the id of an earlier fence, also where another column is at fault
+-- The id of an earlier fence is the fault, even if another column is faulty too.
 again : fences_of_text (header ++ codes "1,0,0,5,5\n01,4,4,9,3\n") ≡ Err (fault.Field 2 1)
 unfolding rows_of_text records_from next_record is_between is_number
 again = refl
 
--- an upper corner below the lower one
+-- An upper corner below the lower one.
 turned : fences_of_text (header ++ codes "1,5,0,4,5\n") ≡ Err (fault.Field 1 4)
 unfolding rows_of_text records_from next_record is_between is_number
 turned = refl
@@ -35,7 +35,7 @@ four_fields : fences_of_text (header ++ codes "1,5,0,4\n") ≡ Err (fault.Csv 1)
 unfolding rows_of_text records_from next_record
 four_fields = refl
 
--- a text of no fences, and one without a header
+-- A text of no fences, and one without a header.
 none : fences_of_text header ≡ Ok []
 unfolding rows_of_text records_from next_record
 none = refl
@@ -44,7 +44,7 @@ no_header : fences_of_text (codes "1,0,0,5,5\n") ≡ Err fault.Header
 unfolding rows_of_text records_from next_record
 no_header = refl
 
--- fences from code: one that is no box, an id for the second time, and both at once
+-- Fences from code: one that is no box, an id for the second time, and both together.
 no_box : fault_of (fence 1 0 0 5 5 ∷ fence 2 5 0 4 5 ∷ []) ≡ Some (bad.NoBox 1)
 no_box = refl
 

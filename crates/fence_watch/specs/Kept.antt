@@ -10,13 +10,13 @@ use Rattle.fence_watch.specs.Tallies.{TallyView}
 use Rattle.fence_watch.specs.Guards.{AllRising}
 use Rattle.fence_watch.specs.Passages.{Charts}
 
--- its tally is of its fences, the ids inside each rise, and there aren't too many fences
+-- Its tally has the same fences, the ids inside each rise, and there aren't too many fences.
 pub record Keeps (guards : List Guard) (tally : TallyView) : Type 0 where
   pub fences : fences_of guards ≡ fences_counted tally.counts
   pub rising : AllRising guards
   pub few : length (fences_of guards) ≤ most_fences
 
--- its chart is of its fences, and neither are there too many fences nor events
+-- Its chart has the same fences, and there aren't too many fences or events.
 pub record KeepsTally (counts : List FenceCount) (chart : Chart) (told : List Event) : Type 0 where
   pub charts : Charts (fences_counted counts) chart
   pub few : length (fences_counted counts) ≤ most_fences

@@ -19,18 +19,18 @@ use thiserror::Error;
 /// Why a tally didn't come to the end of a log.
 #[derive(Clone, Copy, Debug, PartialEq, Error)]
 pub enum AlongFault {
-    /// The walk went over this step, and the tally didn't make it. Hand the step to `Tally::step` before `along` is called again: then no
-    /// cell is left out. If there were too many events, take them out first.
+    /// The walk went over this step, but the tally didn't make it. Give the step to `Tally::step` before you call
+    /// `along` again. Then no cell is left out. If there were too many events, take them out first.
     #[error("a step wasn't made: {fault}")]
     Watch { fault: WatchFault, walked: Walked },
-    /// What the walk came upon after the cells whose steps were made.
+    /// What the walk returned after the cells whose steps were made.
     #[error("{0}")]
     Log(OpenFault),
 }
 
 impl Tally {
-    /// Goes on along all cells that a walk has before it. The walk may have gone over others: along those behind which the tally stands, or
-    /// over a front of the log whose world the tally began with.
+    /// Continues along all cells that a walk has before it. The walk may have gone over other cells before: those that
+    /// the tally has followed, or the first cells of the log, if the tally began with the world after them.
     pub fn along<D: LogDisk>(&mut self, walk: &mut Walk<D>) -> Result<(), AlongFault>
         requires { (w : ℕ) × (most : ℕ) × (cells : List Cell) × ComesTo w most cells (D.drive walk.old.disk) walk.old }
         ensures along { (w most : ℕ) (front cells : List Cell) (taken : List Event) (fences : List Fence)

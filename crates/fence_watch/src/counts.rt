@@ -1,4 +1,4 @@
-//! How many are inside each fence, and what crossings make of that.
+//! How many objects are inside each fence, and how crossings change that number.
 ghost use Rattle.std.specs.Prelude.{◌≡◌, ◌≤◌, ◌+◌, ◌-◌, ◌++◌, length, map, Some, vec_len, vec_capacity, OnOk, OnErr, IfOk};
 ghost use Rattle.fence_watch.specs.Fences.{inside_of};
 ghost use Rattle.fence_watch.specs.Tallies.{count_in};
@@ -24,7 +24,7 @@ pub(crate) struct Step {
     pub(crate) id: u64,
 }
 
-/// Fences that nobody is inside.
+/// Fences with no object inside.
 pub(crate) fn uncounted(alloc: Global, fences: &[Fence]) -> Result<Vec<FenceCount>, AllocError>
     ensures { IfOk result (λ counts. counts.items ≡ map uncounted fences.now) }
 {
@@ -68,7 +68,7 @@ fn number_inside(fence: &Fence, members: &[Member]) -> u64
     number
 }
 
-/// Crosses as many fences as were counted. All memory is taken before anything is changed.
+/// Crosses as many fences as were counted. The call reserves all memory before it changes anything.
 pub(crate) fn pass_counted(
     counts: &mut [FenceCount],
     passage: &[Pair],
@@ -87,7 +87,7 @@ pub(crate) fn pass_counted(
     Ok(())
 }
 
-// There is room for all that comes.
+// There is room for all events.
 fn cross_counted(counts: &mut [FenceCount], passage: &[Pair], step: Step, events: &mut Vec<Event>)
     requires { vec_len events.old + length (said_by step counts.old passage.now) ≤ vec_capacity events.old }
     ensures counts { counts.new ≡ counted_by counts.old passage.now }
@@ -105,7 +105,7 @@ fn cross_counted(counts: &mut [FenceCount], passage: &[Pair], step: Step, events
     cross_counted(others, passage, step, events);
 }
 
-// The same of as many fences as a word has bits, up to the last one that is crossed.
+// The same for as many fences as a word has bits, up to the last one that is crossed.
 fn cross_word(counts: &mut [FenceCount], pair: Pair, step: Step, events: &mut Vec<Event>)
     requires { vec_len events.old + length (said_in step counts.old pair) ≤ vec_capacity events.old }
     ensures counts { counts.new ≡ counted_in counts.old pair }
@@ -145,7 +145,7 @@ impl FenceCount {
     }
 }
 
-// No world has so many objects that it doesn't fit.
+// No world has so many objects that the number doesn't fit.
 fn one_more(number: u64) -> u64
     ensures { result ≡ one_more number }
 {

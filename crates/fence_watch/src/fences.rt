@@ -1,4 +1,4 @@
-//! Fences, and the events that they give.
+//! Fences, and the events of crossing them.
 ghost use Rattle.std.specs.Prelude.{◌≡◌, IfOk};
 ghost use Rattle.fence_watch.specs.Fences.{AreFences, has_fence};
 
@@ -13,7 +13,7 @@ pub struct Fence {
     pub region: Region,
 }
 
-/// The most fences that are watched at once.
+/// The most fences of one watch.
 pub const MOST_FENCES: usize = 256;
 
 pub(crate) fn has_fence(fences: &[Fence], id: u64) -> bool
@@ -22,7 +22,7 @@ pub(crate) fn has_fence(fences: &[Fence], id: u64) -> bool
     fences.iter().any(|fence| fence.id == id)
 }
 
-/// At most 256 fences, each id once, in the order in which they were given.
+/// At most 256 fences in the given order. No two have the same id.
 #[derive(Drop)]
 pub struct Fences {
     items: Vec<Fence>,
@@ -55,7 +55,7 @@ impl Fences {
         self.items.as_slice()
     }
 
-    /// The same fences once more: `Watch::new` takes its own.
+    /// A copy of the fences. `Watch::new` consumes the fences that it gets.
     pub fn copy(&self, alloc: Global) -> Result<Fences, Memory>
         ensures { IfOk result (λ f. f ≡ self.now) }
     {
@@ -65,14 +65,14 @@ impl Fences {
     }
 }
 
-/// Which way an object went.
+/// Whether an object went into a fence or out of it.
 #[derive(Clone, Copy, Debug, PartialEq, Eq)]
 pub enum Crossing {
     Enter,
     Leave,
 }
 
-/// With the cell of this number an object crossed a fence.
+/// With the cell of this number the object crossed the fence.
 #[derive(Clone, Copy, Debug, PartialEq, Eq)]
 pub struct Event {
     pub at: u64,

@@ -18,7 +18,7 @@ pub(crate) struct Guarded {
     pub(crate) inside: Vec<u64>,
 }
 
-/// Fences that nobody is inside.
+/// Fences with no object inside.
 pub(crate) fn guard(alloc: Global, fences: &[Fence]) -> Result<Vec<Guarded>, AllocError>
     ensures guards { IfOk result (λ guards. guards_of guards.items ≡ map (λ f. record { fence = f; inside = [] }) fences.now) }
     ensures rising { IfOk result (λ guards. AllRising (guards_of guards.items)) }
@@ -64,7 +64,7 @@ fn ids_inside(alloc: Global, fence: &Fence, members: &[Member]) -> Result<Vec<u6
     Ok(ids)
 }
 
-/// Takes room for an id in each fence that is entered.
+/// Reserves room for an id in each fence that is entered.
 pub(crate) fn make_room(guards: &mut [Guarded], passage: &[Pair]) -> Result<(), AllocError>
     ensures same { guards_of guards.new ≡ guards_of guards.old }
     ensures room { OnOk result (HaveRoom guards.new (turns_of passage.now)) }
@@ -80,7 +80,7 @@ pub(crate) fn make_room(guards: &mut [Guarded], passage: &[Pair]) -> Result<(), 
     make_room(others, passage)
 }
 
-// The same of as many fences as a word has bits, up to the last one that is crossed.
+// The same for as many fences as a word has bits, up to the last one that is crossed.
 fn make_room_in(guards: &mut [Guarded], pair: Pair) -> Result<(), AllocError>
     ensures same { guards_of guards.new ≡ guards_of guards.old }
     ensures room { OnOk result (HaveRoom guards.new (turns_in (length guards.old) pair)) }
@@ -97,7 +97,7 @@ fn make_room_in(guards: &mut [Guarded], pair: Pair) -> Result<(), AllocError>
     make_room_in(guards, pair.others())
 }
 
-/// Puts an id into the fences that it enters, and takes it out of those that it leaves. There is room for all that comes.
+/// Adds an id to the fences that it enters, and removes it from those that it leaves. There is room for all of them.
 pub(crate) fn cross(guards: &mut [Guarded], passage: &[Pair], id: u64)
     requires rising { AllRising (guards_of guards.old) }
     requires room { HaveRoom guards.old (turns_of passage.now) }
@@ -115,7 +115,7 @@ pub(crate) fn cross(guards: &mut [Guarded], passage: &[Pair], id: u64)
     cross(others, passage, id);
 }
 
-// The same of as many fences as a word has bits, up to the last one that is crossed.
+// The same for as many fences as a word has bits, up to the last one that is crossed.
 fn cross_in(guards: &mut [Guarded], pair: Pair, id: u64)
     requires rising { AllRising (guards_of guards.old) }
     requires room { HaveRoom guards.old (turns_in (length guards.old) pair) }

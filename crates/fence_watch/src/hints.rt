@@ -5,8 +5,8 @@ ghost use Rattle.fence_watch.specs.Slabs.{IsAmong, IsSlabOf};
 
 use std::alloc::{AllocError, Global};
 
-/// For each stripe, which has so many numbers, the slab of the first one. Stripes begin at the first edge above 0. Nothing rests on it: where
-/// it is wrong, all edges are searched.
+/// For each stripe of numbers, the slab of its first number. Stripes begin at the first edge above 0. No contract
+/// depends on a hint: if it is wrong, all edges are searched.
 #[derive(Drop)]
 pub(crate) struct Hints {
     least: u32,
@@ -14,14 +14,14 @@ pub(crate) struct Hints {
     starts: Vec<u16>,
 }
 
-/// So many slabs from one on.
+/// `count` slabs from `slab` on.
 #[derive(Clone, Copy)]
 struct Stretch {
     slab: usize,
     count: usize,
 }
 
-/// So many bits tell the stripes apart.
+/// The number of bits that number the stripes.
 const STRIPE_BITS: u32 = 12;
 
 impl Hints {
@@ -59,7 +59,7 @@ impl Hints {
         slab_in(edges, at, self.stretch(edges, at))
     }
 
-    // The slabs of the number's stripe, if the edges bear it out, or else all of them.
+    // The slabs of the number's stripe, if the edges confirm it. Otherwise all slabs.
     fn stretch(&self, edges: &[u32], at: u32) -> Stretch
         requires some { 1 ≤ length edges.now }
         requires first { slice_index edges.now 0 ≤ at }
@@ -87,7 +87,7 @@ impl Hints {
     }
 }
 
-// The first number of a stripe: what lies before the first one belongs to it, too.
+// The first number of a stripe. The numbers before the first stripe belong to it, too.
 fn first_of(least: u32, shift: u32, stripe: u32) -> u32
     requires shift { shift < 32 }
     requires stripe { stripe < 8192 }
@@ -120,7 +120,7 @@ fn is_among(edges: &[u32], at: u32, stretch: Stretch) -> bool
     edges[slab] <= at && (count == edges.len() - slab || at < edges[slab + count])
 }
 
-// The last edge that is at most a number, which is among these. Each turn halves what is left of them.
+// The last edge that is at most a number. It is among these. Each turn halves the number of edges that are left.
 fn slab_in(edges: &[u32], at: u32, stretch: Stretch) -> usize
     requires rise { IsNonDecreasing edges.now }
     requires among { IsAmong edges.now at stretch.slab stretch.count }

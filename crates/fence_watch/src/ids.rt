@@ -3,7 +3,8 @@ ghost use Rattle.std.specs.Prelude.{◌≡◌, ◌+◌, ◌≤◌, vec_len, vec_
 ghost use Rattle.fence_watch.specs.Watches.{with_id, without_id};
 ghost use Rattle.fence_watch.specs.Guards.{AreRising};
 
-/// There is room, so it can't fail. An id behind all others costs a search, and one before them moves them all.
+/// There is room, so the call can't fail. An id after all others costs a search. An id before all others moves them
+/// all.
 pub(crate) fn put_id(ids: &mut Vec<u64>, id: u64)
     requires rising { AreRising ids.old.items }
     requires room { vec_len ids.old + 1 ≤ vec_capacity ids.old }

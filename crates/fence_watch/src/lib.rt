@@ -1,10 +1,14 @@
-//! Tells who enters and leaves fences along the cells of a log, or as a program moves its objects.
+//! Reports which objects enter and leave fences, along the cells of a log or as a program moves its objects.
 //!
-//! Contracts see a `Tally` as its fences, each with how many are inside it, and the events that weren't taken out. From a world on, after
-//! steps along cells, its events are the `crossings_from` there, and the numbers those of the objects that the cells leave in each fence
-//! (`TalliesFrom`); after a program's own steps (`moved`) the numbers are those of the world that its operations leave (`FollowsWorld`); and
-//! after the changes of a history, each told once and in order (`changed`), both are those of the history (`TalliesChanges`). A `Watch` is a
-//! tally with the ids inside each fence beside it. Fences are read from a text (`read_fences`) or made (`Fences::of`).
+//! Contracts see a `Tally` as its fences, each with how many objects are inside it, and the events that weren't taken
+//! out.
+//! - After steps along cells, its events are their `crossings_from`. Its numbers are those of the world after the cells
+//!   (`TalliesFrom`).
+//! - After a program's own steps (`moved`) the numbers are those of the world after its operations (`FollowsWorld`).
+//! - After the changes of a history, each reported once and in order (`changed`), events and numbers are those of the
+//!   history (`TalliesChanges`).
+//! - A `Watch` is a tally that also keeps the ids inside each fence.
+//! - Fences come from a text (`read_fences`) or from code (`Fences::of`).
 //!
 //! Not here: how a log is walked (`recovery`), how lines are written (`watch_run`).
 #![tactic(auto)]

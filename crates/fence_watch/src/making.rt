@@ -9,7 +9,7 @@ use std::alloc::Global;
 use thiserror::Error;
 use zorder::coordinates_fit;
 
-/// Why fences aren't taken. A number is that of the first fence at fault, from 0 on.
+/// Why fences were refused. A number is that of the first faulty fence, from 0 on.
 #[derive(Clone, Copy, Debug, PartialEq, Eq, Error)]
 pub enum BadFences {
     #[error("there are more than 256 fences")]
@@ -17,7 +17,7 @@ pub enum BadFences {
     /// The lower corner isn't at most the upper one, on both axes.
     #[error("fence {number} is no box")]
     NoBox { number: usize },
-    /// It is a box, and has the id of an earlier one.
+    /// The fence is a box, and has the id of an earlier one.
     #[error("fence {number} has the id of an earlier one")]
     Twice { number: usize },
     #[error("out of memory")]
@@ -25,7 +25,7 @@ pub enum BadFences {
 }
 
 impl Fences {
-    /// These fences, in their order. They are looked at before any memory is taken.
+    /// These fences, in their order. The call checks them before it allocates memory.
     pub fn of(alloc: Global, fences: &[Fence]) -> Result<Fences, BadFences>
         ensures fault { IfSome (fault_of fences.now) (λ e. result ≡ Err e) }
         ensures fences { fault_of fences.now ≡ None → MatchResult result (λ f. f ≡ fences.now) (λ e. e ≡ BadFences.Memory) }
@@ -55,7 +55,7 @@ fn fault_of(fences: &[Fence]) -> Option<BadFences>
     None
 }
 
-// What is wrong with the fence behind these, if anything is.
+// What is wrong with the fence that comes after these, if anything is.
 fn fault_behind(earlier: &[Fence], fence: Fence) -> Option<BadFences>
     ensures fault { result ≡ fault_behind earlier.now fence }
     ensures fence { result ≡ None → IsFence fence }

@@ -1,4 +1,4 @@
-//! From one place to another: which fences are crossed on the way.
+//! Which fences an object crosses between two positions.
 ghost use Rattle.std.specs.Prelude.{◌≡◌, ◌≤◌, ◌==◌, ◌%◌, ◌/◌, true, map, List, Some, IfOk};
 ghost use Rattle.fence_watch.specs.declared.fences.Fence.{Fence};
 ghost use Rattle.fence_watch.specs.Fences.{most_fences, lies_in};
@@ -10,14 +10,15 @@ use crate::slabs::{Slabs, Span};
 use std::alloc::{AllocError, Global};
 use zorder::Point;
 
-/// What tells of a place which fences have it: a row for each axis, looked up.
+/// A chart returns the fences that have a position. It looks up a row for each axis.
 #[derive(Drop)]
 pub(crate) struct Chart {
     columns: Slabs,
     lines: Slabs,
 }
 
-/// With the step of this number an object goes from one place to another: nowhere, where it isn't there yet, or isn't there any more.
+/// With the step of this number an object goes from one position to another. A position is `None` if the object isn't
+/// there yet, or no longer.
 #[derive(Clone, Copy)]
 pub(crate) struct Went {
     pub(crate) at: u64,
@@ -26,7 +27,7 @@ pub(crate) struct Went {
     pub(crate) after: Option<Point>,
 }
 
-/// Of 64 fences, a bit for each: which an object was in, and is in.
+/// A bit for each of 64 fences: those that an object was in, and those that it is in.
 #[derive(Clone, Copy)]
 pub(crate) struct Pair {
     was: u64,
@@ -55,7 +56,7 @@ impl Chart {
         })
     }
 
-    /// How each fence is crossed by an object that goes from one place to another one.
+    /// How an object that goes from one position to another crosses each fence.
     pub(crate) fn passage(&self, before: Option<Point>, after: Option<Point>) -> [Pair; 4]
         ensures { (fences : List Fence) → Charts fences self.now → ShowsPassage before after fences result }
     {
@@ -65,7 +66,7 @@ impl Chart {
         pairs_of(&self.marks(before), &self.marks(after))
     }
 
-    // From one place to another one.
+    // From one position to another.
     fn way(&self, from: Point, to: Point) -> [Pair; 4]
         ensures { (fences : List Fence) → Charts fences self.now → ShowsPassage (Some from) (Some to) fences result }
     {
@@ -74,7 +75,7 @@ impl Chart {
         pairs_of(&both(column, line), &both(column_behind, line_behind))
     }
 
-    // The fences that have a place.
+    // The fences that have a position.
     fn marks(&self, place: Option<Point>) -> [u64; 4]
         ensures { (fences : List Fence) → Charts fences self.now
             → marks_of result ≡ all_marks (map (λ (f : Fence). lies_in f place) fences) }
@@ -149,7 +150,7 @@ impl Pair {
         turn(self.was % 2 == 1, self.is % 2 == 1)
     }
 
-    /// The same of the other fences.
+    /// The same pair for the other fences.
     pub(crate) fn others(self) -> Pair
         ensures was { result.was ≡ self.was / 2 }
         ensures is { result.is ≡ self.is / 2 }

@@ -15,7 +15,7 @@ use zorder::Region;
 
 /// The fences of a text: the header `fence,x,y,a,b`, and then at most 256 rows of five fields.
 ///
-/// One byte order mark may stand in front. Empty lines are no records, and numbers may have leading zeros.
+/// The text may begin with one byte order mark. Empty lines are no records, and numbers may have leading zeros.
 pub fn read_fences(alloc: Global, bytes: &[u8]) -> Result<Fences, RowsFault>
     ensures rows { IfOk result (λ fences. fences_of_text bytes.now ≡ Ok fences) }
     ensures fault { IfErr result (λ e. e ≢ RowsFault.Memory → fences_of_text bytes.now ≡ Err e) }
@@ -24,7 +24,7 @@ pub fn read_fences(alloc: Global, bytes: &[u8]) -> Result<Fences, RowsFault>
     Ok(Fences::from_vec(fences))
 }
 
-// How a fence is read behind the earlier ones.
+// How a fence is read after the earlier ones.
 #[derive(Drop)]
 struct FenceRows;
 
@@ -90,7 +90,7 @@ fn is_header(fields: &ByteRecord) -> bool
         && is_text(fields.b, "b")
 }
 
-// The fence of a record behind these, or what is wrong with it.
+// The fence of a record that comes after these fences, or what is wrong with it.
 fn fence_of(earlier: &[Fence], fields: &ByteRecord) -> Result<Fence, Wrong>
     ensures { result ≡ fence_of earlier.now (fields_of fields.now) }
 {
@@ -104,7 +104,7 @@ fn fence_of(earlier: &[Fence], fields: &ByteRecord) -> Result<Fence, Wrong>
     fence_at(id, &fields)
 }
 
-// The fence with this id that columns 2 to 5 say, or the leftmost of them at fault.
+// The fence with this id and the numbers of columns 2 to 5, or the leftmost faulty column.
 fn fence_at(id: u64, fields: &Fields<'_>) -> Result<Fence, Wrong>
     ensures { result ≡ fence_at id fields.now.x.now fields.now.y.now fields.now.a.now fields.now.b.now }
 {

@@ -1,4 +1,4 @@
-//! Which of some spans have a number: looked up, and not compared with each.
+//! Which of some spans have a number. The answer is looked up, without a comparison with each span.
 ghost use Rattle.std.specs.Prelude.{◌≡◌, ◌≤◌, ◌<◌, ◌∷◌, ◌++◌, true, length, take, drop, IfOk, OnOk, map};
 ghost use Rattle.std.specs.List.Sorted.{IsNonDecreasing, IsPermutation};
 ghost use Rattle.std.specs.Simd.Lanes.{mask_l};
@@ -9,7 +9,7 @@ use crate::hints::Hints;
 use std::alloc::{AllocError, Global};
 use std::marker::Model;
 
-/// The numbers from one to another one, both among them.
+/// The numbers from `from` to `to`, both included.
 #[derive(Clone, Copy)]
 pub(crate) struct Span {
     pub(crate) from: u32,
@@ -24,8 +24,8 @@ impl Span {
     }
 }
 
-/// Spans, cut at each number where one of them begins or has ended. Between two edges nothing changes, so there is a row for each edge:
-/// which of the spans have it.
+/// Spans, cut at each number where one of them begins or has ended. Nothing changes between two edges, so there is one
+/// row for each edge. The row holds the spans that have the edge.
 #[derive(Drop)]
 pub(crate) struct Slabs {
     spans: Vec<Span>,
@@ -69,7 +69,8 @@ impl Slabs {
         &self.rows[slab]
     }
 
-    /// The same of two numbers, looked up once where no edge lies between them, as between places of an object mostly none does.
+    /// The same for two numbers. If no edge is between them, one look-up serves both, which is usual for two positions
+    /// of an object.
     pub(crate) fn rows(&self, one: u32, other: u32) -> (&[u64; 4], &[u64; 4])
         ensures one { marks_of result.0.now ≡ all_marks (row_at one self.now) }
         ensures other { marks_of result.1.now ≡ all_marks (row_at other self.now) }
@@ -84,7 +85,7 @@ impl Slabs {
     }
 }
 
-// Whether a number lies between an edge and the next one.
+// Whether a number is between an edge and the next one.
 fn has(edges: &[u32], slab: usize, at: u32) -> bool
     requires { slab < length edges.now }
     ensures { result ≡ true → IsSlabOf edges.now at slab }
@@ -104,7 +105,7 @@ fn edges_of(alloc: Global, spans: &[Span]) -> Result<Vec<u32>, AllocError>
     Ok(edges)
 }
 
-// Behind the greatest number no span ends.
+// No span ends after the greatest number.
 fn push_edges(edges: &mut Vec<u32>, span: &Span) -> Result<(), AllocError>
     ensures { OnOk result (edges.new.items ≡ edges.old.items ++ own_edges span.now) }
 {

@@ -1,4 +1,4 @@
-//! A tally: fences, how many are inside, and who crossed.
+//! A tally: fences, how many objects are inside each, and which crossed.
 ghost use Rattle.std.specs.Prelude.{◌≡◌, ◌≤◌, ◌↔◌, ℕ, List, [], ◌∷◌, ◌++◌, length, map};
 ghost use Rattle.std.specs.Prelude.{Err, Some, true, IfOk, OnOk, OnErr};
 ghost use Rattle.cell_format.specs.declared.cell.Cell.{Cell};
@@ -32,10 +32,11 @@ use std::marker::Model;
 use std::mem::replace;
 use zorder::{Memory, Point};
 
-/// The most events that are kept until they are taken out.
+/// The most events that a tally keeps until they are taken out.
 pub const MOST_FENCE_EVENTS: usize = 4_194_304;
 
-/// Fences along a log, and how many are inside each: no ids are kept, so a step costs the same in whatever order they come.
+/// Fences along a log, and how many objects are inside each. It keeps no ids, so the cost of a step doesn't depend on
+/// their order.
 #[derive(Drop)]
 pub struct Tally {
     counts: Vec<FenceCount>,
@@ -56,7 +57,7 @@ impl Model for Tally {
 }
 
 impl Tally {
-    /// No cell was followed yet, and nobody is inside.
+    /// A tally that has followed no cell yet, with no object inside.
     pub fn new(alloc: Global, fences: &Fences) -> Result<Tally, Memory>
         ensures follows { IfOk result (λ t. TalliesCells [] [] fences.now t) }
         ensures changes { IfOk result (λ t. TalliesChanges [] [] [] fences.now t) }
@@ -68,7 +69,8 @@ impl Tally {
         })
     }
 
-    /// No step was made yet, and a world's objects are inside. It looks at each of them for each fence.
+    /// A tally that has made no step yet. The objects of a world are inside. The call checks each object for each
+    /// fence.
     pub fn over(alloc: Global, fences: &Fences, world: &World) -> Result<Tally, Memory>
         ensures from { IfOk result (λ t. (at : ℕ) → TalliesFrom at world.now [] [] fences.now t) }
         ensures world { IfOk result (λ t. FollowsWorld world.now fences.now t) }
@@ -81,7 +83,7 @@ impl Tally {
         })
     }
 
-    /// The events so far, without those that were taken.
+    /// The events so far, without those that were taken out.
     pub fn events(&self) -> &[Event]
         ensures events { result.now ≡ self.now.events }
         ensures few { length self.now.events ≤ most_events }
@@ -95,7 +97,7 @@ impl Tally {
         self.events.as_slice()
     }
 
-    /// The fences in their order, each with how many are inside.
+    /// The fences in their order, each with how many objects are inside.
     pub fn counts(&self) -> &[FenceCount]
         ensures counts { result.now ≡ self.now.counts }
         ensures follows { (w : ℕ) (taken : List Event) (cells : List Cell) (fences : List Fence) → TalliesCells taken cells fences self.now
@@ -109,7 +111,7 @@ impl Tally {
         self.counts.as_slice()
     }
 
-    /// Goes on along a cell.
+    /// Continues along a cell. An error leaves the tally unchanged.
     pub fn step(&mut self, walked: &Walked) -> Result<(), WatchFault>
         ensures ok { OnOk result (Tallies walked.now self.old self.new) }
         ensures follows { OnOk result ((w : ℕ) (taken : List Event) (cells : List Cell) (fences : List Fence)
@@ -124,7 +126,7 @@ impl Tally {
         ensures err { OnErr result (self.new ≡ self.old) }
         ensures too_many { (result ≡ Err WatchFault.TooMany) ↔ IsPast walked.now self.old }
     {
-        // Of a cell that moves nobody only this is to be known: how many events there are at most.
+        // For a cell that moves no object, the proof needs only the bound on the number of events.
         let _events = self.events();
         let Some(id) = object_of(&walked.cell) else {
             return Ok(());
@@ -132,10 +134,10 @@ impl Tally {
         self.moved(walked.at, id, walked.before, walked.after)
     }
 
-    /// Goes on with a step of a program's own: an object went from one place to another. It is nowhere before it is put, and after it was
-    /// dropped.
+    /// Continues with a step of a program's own: an object went from one position to another. The position is `None`
+    /// before the object is put and after it is removed.
     ///
-    /// The number is the program's, and stands in the events of this step: a place in its history, say.
+    /// The number `at` is the program's choice, for example a place in its history. It is in the events of this step.
     pub fn moved(
         &mut self,
         at: u64,
@@ -161,8 +163,9 @@ impl Tally {
         )
     }
 
-    /// Goes on with a change that a call has made in a store. A tally that is told the changes of a history in the order of their places has
-    /// their crossings as its events, and the numbers of the history's world.
+    /// Continues with a change that a call has made in a store. Report the changes of a history in the order of their
+    /// places. Then the tally's events are the crossings of the history, and its numbers are those of the history's
+    /// world.
     pub fn changed(&mut self, change: &Change) -> Result<(), WatchFault>
         ensures ok { OnOk result (TalliesBy change.now.place (Some change.now.id) change.now.before change.now.after self.old self.new) }
         ensures world { OnOk result ((world : World) (op : Op) (fences : List Fence) → FollowsWorld world fences self.old
@@ -176,7 +179,7 @@ impl Tally {
         self.moved(change.place, change.id, change.before, change.after)
     }
 
-    /// Takes the events out, so that there is room for as many again. How many are inside stays.
+    /// Takes the events out, so that there is room for as many again. The numbers of objects inside don't change.
     pub fn take_events(&mut self, alloc: Global) -> Vec<Event>
         ensures events { result.items ≡ self.old.events }
         ensures rest { self.new ≡ record { counts = self.old.counts; events = [] } }
@@ -191,14 +194,14 @@ impl Tally {
         replace(&mut self.events, Vec::new(alloc))
     }
 
-    /// How each fence is crossed between two places.
+    /// How each fence is crossed between two positions.
     pub(crate) fn passage(&self, before: Option<Point>, after: Option<Point>) -> [Pair; 4]
         ensures { ShowsPassage before after (fences_counted self.now.counts) result }
     {
         self.chart.passage(before, after)
     }
 
-    /// Whether there would be too many events with a step that crosses fences so.
+    /// Whether a step with these crossings would lead to too many events.
     pub(crate) fn is_past(&self, went: &Went, passage: &[Pair; 4]) -> bool
         requires { Shows went.now self.now passage.now }
         ensures { (result ≡ true) ↔ IsPastBy went.now.at (Some went.now.id) went.now.before went.now.after self.now }
@@ -206,7 +209,7 @@ impl Tally {
         self.events.len() + crossed(passage) > MOST_FENCE_EVENTS
     }
 
-    /// What `moved` does of a step that crosses fences so.
+    /// Does the work of `moved` for a step with these crossings.
     pub(crate) fn pass(&mut self, went: &Went, passage: &[Pair; 4]) -> Result<(), WatchFault>
         requires { Shows went.now self.old passage.now }
         ensures ok { OnOk result (TalliesBy went.now.at (Some went.now.id) went.now.before went.now.after self.old self.new) }

@@ -1,4 +1,4 @@
-//! A watch: a tally of fences, and the ids of those that are inside.
+//! A watch: a tally of fences, and the ids of the objects inside.
 ghost use Rattle.std.specs.Prelude.{◌≡◌, ◌≤◌, ◌↔◌, ℕ, List, [], ◌∷◌, ◌++◌, length};
 ghost use Rattle.std.specs.Prelude.{Err, Some, None, IfOk, OnOk, OnErr, MatchOption};
 ghost use Rattle.cell_format.specs.declared.cell.Cell.{Cell};
@@ -39,8 +39,9 @@ pub enum WatchFault {
 
 /// Fences along a log, with the ids inside each.
 ///
-/// `inside` hands out a slice and takes no memory, so the ids of a fence are one rising list: an id that comes before others moves them all, and
-/// so many that come against their order cost the square of their number. Where numbers are enough, a `Tally` keeps no ids.
+/// `inside` returns a slice and takes no memory, so the ids of a fence are one rising list. An id that comes before
+/// others moves them all. If many ids come in falling order, the cost grows with the square of their number. If numbers
+/// are enough, use a `Tally`, which keeps no ids.
 #[derive(Drop)]
 pub struct Watch {
     guards: Vec<Guarded>,
@@ -61,7 +62,7 @@ impl Model for Watch {
 }
 
 impl Watch {
-    /// No cell was followed yet, and nobody is inside.
+    /// A watch that has followed no cell yet, with no object inside.
     pub fn new(alloc: Global, fences: Fences) -> Result<Watch, Memory>
         ensures { IfOk result (λ w. FollowsCells [] fences w) }
     {
@@ -71,7 +72,8 @@ impl Watch {
         })
     }
 
-    /// No step was made yet, and a world's objects are inside. It looks at each of them for each fence, twice.
+    /// A watch that has made no step yet. The objects of a world are inside. The call checks each object for each
+    /// fence, twice.
     pub fn over(alloc: Global, fences: Fences, world: &World) -> Result<Watch, Memory>
         ensures from { IfOk result (λ w. (at : ℕ) → FollowsFrom at world.now [] [] fences w) }
         ensures world { IfOk result (λ w. HoldsWorld world.now fences w) }
@@ -82,7 +84,7 @@ impl Watch {
         })
     }
 
-    /// The events so far, without those that were taken.
+    /// The events so far, without those that were taken out.
     pub fn events(&self) -> &[Event]
         ensures events { result.now ≡ self.now.events }
         ensures few { length self.now.events ≤ most_events }
@@ -94,7 +96,7 @@ impl Watch {
         self.tally.events()
     }
 
-    /// Who is inside the fence of this number, their ids rising.
+    /// The ids inside the fence of this number, rising. `None` if there is no such fence.
     pub fn inside(&self, fence: u64) -> Option<&[u64]>
         ensures answer { MatchOption result (inside_at fence self.now.guards ≡ None)
             (λ ids. inside_at fence self.now.guards ≡ Some ids.now) }
@@ -111,7 +113,7 @@ impl Watch {
         None
     }
 
-    /// Goes on along a cell.
+    /// Continues along a cell. An error leaves the watch unchanged.
     pub fn step(&mut self, walked: &Walked) -> Result<(), WatchFault>
         requires holds { HoldsBefore (object_of walked.now.cell) walked.now.before self.old.guards }
         ensures ok { OnOk result (Steps walked.now self.old self.new) }
@@ -123,7 +125,7 @@ impl Watch {
         ensures err { OnErr result (self.new ≡ self.old) }
         ensures too_many { (result ≡ Err WatchFault.TooMany) ↔ IsOver walked.now self.old }
     {
-        // Of a cell that moves nobody only this is to be known: how many events there are at most.
+        // For a cell that moves no object, the proof needs only the bound on the number of events.
         let _events = self.events();
         let Some(id) = object_of(&walked.cell) else {
             return Ok(());
@@ -131,7 +133,7 @@ impl Watch {
         self.moved(walked.at, id, walked.before, walked.after)
     }
 
-    /// Goes on with a step of a program's own, as `Tally::moved` does.
+    /// Continues with a step of a program's own, as `Tally::moved` does.
     pub fn moved(
         &mut self,
         at: u64,
@@ -156,7 +158,7 @@ impl Watch {
         pass(&mut self.guards, &mut self.tally, &went, &passage)
     }
 
-    /// Takes the events out, so that there is room for as many again. Who is inside stays.
+    /// Takes the events out, so that there is room for as many again. The ids inside don't change.
     pub fn take_events(&mut self, alloc: Global) -> Vec<Event>
         ensures events { result.items ≡ self.old.events }
         ensures rest { self.new ≡ record { guards = self.old.guards; events = [] } }
@@ -168,7 +170,7 @@ impl Watch {
     }
 }
 
-// Makes a step that crosses fences so. All memory is taken before anything is changed.
+// Makes a step with these crossings. It reserves all memory before it changes anything.
 fn pass(
     guards: &mut [Guarded],
     tally: &mut Tally,

@@ -23,7 +23,7 @@ use Rattle.follow_run.specs.Leading.{RecoversLeader, ReadsLeader, LosesLeader}
 use Rattle.follow_run.specs.Replica.{EndsReplica}
 use Rattle.follow_run.specs.Following.{judged_turns, AreDecided, EndsFollowing, GoesFollowing}
 
--- the leader's cells aren't read
+-- The leader's cells aren't read.
 pub ends-lost : {D : Type 0} (file name : List ℕ) (turns : List Turn) (old new : Targets D) (why : Refusal) (status : ℕ) → LosesLeader file old.drive new.drive why → new.other ≡ old.other
     → Refuses why status old.output new.output → EndsFollowing file name turns old new status
 ends-lost file name turns old new why status loses other refuses =
@@ -42,7 +42,7 @@ ends-lost file name turns old new why status loses other refuses =
       attached = attaches-as file false old.drive new.drive status (status_of why) is loses.read.attached;
     }
 
--- they are, and were followed
+-- The leader's cells are read, and were followed.
 pub ends-read : {D : Type 0} (file name : List ℕ) (turns : List Turn) (old new : Targets D) (w : ℕ) (cells : List Cell) (status : ℕ) → ReadsLeader file w old.drive new.drive cells
     → EndsReplica w cells turns name old.other_drive new.other_drive status old.output new.output → EndsFollowing file name turns old new status
 ends-read file name turns old new w cells status reads ends =
@@ -63,7 +63,7 @@ ends-read file name turns old new w cells status reads ends =
       attached = attaches-one file false old.drive new.drive status reads.read.attached;
     }
 
--- the status of want of memory says nothing of the files
+-- The status for a lack of memory says nothing about the files.
 undecided : {D : Type 0} (old new : Targets D) (status : ℕ) → status ≡ 9 → AreDecided old new status
 undecided old new status nine = record {
   exact = λ bytes e told shown wrong calm. inr nine;
@@ -78,7 +78,7 @@ ok-err x why same = cc same
 err-same : {T : Type 0} (a b : Refusal) → ◌≡◌ {A = Result T Refusal} (Err a) (Err b) → a ≡ b
 err-same a b same = cc same
 
--- what a cause says of bytes that are known: the source failed, memory ran out, or this is wrong with them
+-- What a cause says about known bytes: the source failed, memory ran out, or the bytes have this fault.
 told-cause : (before after : Input) (why : Refusal) (bytes : List ℕ) → before.left ≡ Some bytes → IsTableCause turns_of_text before after why
     → (Rose before.faults after.faults ⊎ (why ≡ refusal.Memory)) ⊎ (judged_turns bytes ≡ Err why)
 told-cause before after refusal.Usage bytes told is = absurd is
@@ -98,7 +98,7 @@ told-cause before after refusal.LongEvents bytes told is = absurd is
 told-cause before after refusal.Memory bytes told is = inl (inr refl)
 told-cause before after (refusal.InUse len) bytes told is = absurd is
 
--- the source gave no turns
+-- The source gave no turns.
 pub goes-unread : {D : Type 0} (file name : List ℕ) (before after : Input) (old new : Targets D) (why : Refusal) (status : ℕ) → IsTableCause turns_of_text before after why
     → (why ≢ refusal.Source → after.faults ≡ before.faults) → ConsumesUpTo (most_bytes + 1) before.left after.left → new.disk ≡ old.disk → new.other ≡ old.other
     → Refuses why status old.output new.output → GoesFollowing file name before after old new status
@@ -122,7 +122,7 @@ goes-unread file name before after old new why status cause calm taken disk othe
       };
     }
 
--- it did
+-- The source gave turns.
 pub goes-read : {D : Type 0} (file name : List ℕ) (before after : Input) (old new : Targets D) (turns : List Turn) (status : ℕ) → ReadsTable turns_of_text before after turns
     → EndsFollowing file name turns old new status → GoesFollowing file name before after old new status
 goes-read file name before after old new turns status read ends = record {
@@ -133,14 +133,14 @@ goes-read file name before after old new turns status read ends = record {
   };
 }
 
--- an input that is too long, and one that isn't
+-- An input that is too long, and one that isn't.
 judged-long : (bytes : List ℕ) → most_bytes < length bytes → judged_turns bytes ≡ Err refusal.LongInput
 judged-long bytes long = ap (λ (b : Bool). if b then Err refusal.LongInput else or_refusal (turns_of_text bytes)) (lt-ltb most_bytes (length bytes) long)
 
 judged-few : (bytes : List ℕ) → length bytes ≤ most_bytes → judged_turns bytes ≡ or_refusal (turns_of_text bytes)
 judged-few bytes few = ap (λ (b : Bool). if b then Err refusal.LongInput else or_refusal (turns_of_text bytes)) (le-ltb most_bytes (length bytes) few)
 
--- what is wrong with the bytes of a source, and what they say
+-- What is wrong with the bytes of a source, and what they say.
 module _ (before after : Input) where
   pub bytes-cause : (why : Refusal) → IsBytesCause before after why → IsTableCause turns_of_text before after why
   bytes-cause refusal.Usage is = absurd is

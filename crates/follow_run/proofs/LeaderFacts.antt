@@ -32,7 +32,7 @@ use Rattle.log_run.proofs.DriveSteps.{calm-read, free-later}
 use Rattle.follow_run.specs.declared.leader.Leader.{Leader}
 use Rattle.follow_run.specs.Leading.{FindsLeader, RecoversLeader, HasLeader, ReadsLeader, LosesLeader}
 
--- one call that reads alone behind another
+-- A call that only reads, after another one.
 pub reads-on : {T U V : Type 0} (a b c : Drive) (x : T) (y : U) (z : V) → OnlyReads a b (Ok x) → OnlyReads b c (Ok y) → OnlyReads a c (Ok z)
 reads-on a b c x y z first second = record {
   stays = stays-trans a b c first.stays second.stays;
@@ -51,7 +51,7 @@ reads-failed {U = U} a b c x e first second = record {
   file = λ all told. first.file all (second.file all told);
 }
 
--- the fault that is told is the one that the bytes show, unless they don't decide
+-- The reported fault is the one that the bytes show, unless they don't decide.
 module _ (w : ℕ) (bytes : List ℕ) (a b : Drive) where
   pub exact-of : (e : OpenFault) → IsFault oldest_read (Some w) most_followed bytes e → (e ≡ open_fault.Disk → Rose a.faults b.faults) → (shown : OpenFault) → IsInBytes shown → IsFault oldest_read (Some w) most_followed bytes shown → (e ≡ shown) ⊎ IsFree a b e
   exact-of open_fault.NotLog is rose f shown wrong = inl (one_fault oldest_read w most_followed (lit≤ tt) bytes open_fault.NotLog f tt shown is wrong)
@@ -69,11 +69,11 @@ module _ (w : ℕ) (bytes : List ℕ) (a b : Drive) where
   whole-of open_fault.Memory is rose cells recovers few = inl refl
   whole-of (open_fault.TooLong limit) is rose cells recovers few = absurd (recovers_no_fault oldest_read w most_followed (lit≤ tt) bytes cells (open_fault.TooLong limit) recovers (recovers_wanted w cells bytes recovers) few tt is)
 
--- what was found before a call that leaves the bytes
+-- What was found held before a call that leaves the bytes.
 pub found-before : (w : ℕ) (a b : Drive) (cells : List Cell) → Stays a b → FindsLeader w b cells → FindsLeader w a cells
 found-before w a b cells stays found = record { leading = found.leading; recovers = λ bytes told. found.recovers bytes (stays.bytes ∙ told) }
 
--- the bytes recover to no other cells, by no other width, and nothing is at fault in them
+-- The bytes recover to no other cells and no other width, and have no fault.
 pub has-leader : (w : ℕ) (drive : Drive) (cells : List Cell) → FindsLeader w drive cells → HasLeader w drive cells
 has-leader w drive cells found = record {
   found = found;
@@ -87,7 +87,7 @@ has-leader w drive cells found = record {
       recovers_no_fault oldest_read w most_followed (lit≤ tt) bytes cells e mine (recovers_wanted w cells bytes mine) found.leading.few shown (fault_at oldest_read most_followed bytes w width e wrong);
 }
 
--- a file that was attached and read
+-- A file that was attached and read.
 pub reads-leader : {T : Type 0} (file : List ℕ) (w : ℕ) (a b c : Drive) (cells : List Cell) (x : T) → Stays a b → b.faults ≡ a.faults → AttachedOne file false a b → OnlyReads b c (Ok x) → FindsLeader w b cells
     → ReadsLeader file w a c cells
 reads-leader file w a b c cells x stays same attached reads found = record {
@@ -96,7 +96,7 @@ reads-leader file w a b c cells x stays same attached reads found = record {
   stays = stays-trans a b c stays reads.stays;
 }
 
--- a file that was attached, and whose log wasn't read
+-- A file that was attached, but whose log wasn't read.
 pub loses-leader : {T : Type 0} (file : List ℕ) (a b c : Drive) (e : OpenFault) → Stays a b → b.faults ≡ a.faults → AttachedOne file false a b → OnlyReads {T = T} b c (Err e)
     → ((bytes : List ℕ) → b.bytes ≡ Some bytes → IsFault oldest_read None most_followed bytes e) → MayTell oldest_read None most_followed e
     → ((bytes : List ℕ) (f : OpenFault) → b.bytes ≡ Some bytes → IsInBytes f → IsFault oldest_read None most_followed bytes f → (e ≡ f) ⊎ IsFree b c e)
@@ -114,7 +114,7 @@ loses-leader {T = T} file a b c e stays same attached reads wrong may exact whol
       stays = stays-trans a b c stays reads.stays;
     }
 
--- a file that wasn't attached
+-- A file that wasn't attached.
 pub loses-attached : (file : List ℕ) (a b : Drive) (why : Refusal) → RefusesAttach file false a b why → LosesLeader file a b why
 loses-attached file a b why refuses = record {
   cause = reading-unattached file false a b oldest_read most_followed why refuses;
@@ -124,7 +124,7 @@ loses-attached file a b why refuses = record {
   stays = refuses.stays;
 }
 
--- a fault of a call, where its answer has another type
+-- A fault of a call whose result has another type.
 pub reads-as : {T U : Type 0} (a b : Drive) (e : OpenFault) → OnlyReads {T = T} a b (Err e) → OnlyReads {T = U} a b (Err e)
 reads-as {T = T} a b e reads = record {
   stays = reads.stays;
@@ -134,7 +134,7 @@ reads-as {T = T} a b e reads = record {
   file = reads.file;
 }
 
--- what a walk tells of its next cell, and at its end
+-- What a walk returns of its next cell, and at its end.
 module _ {D : Type 0} (w : ℕ) (cells : List Cell) (a b : Drive) (walk : WalkView D) (told : Option Walked) (tells : TellsWalked w most_followed cells a b walk (Ok told)) where
   pub next-told : (walked : Walked) → told ≡ Some walked → ComesTo w most_followed (cells ++ walked.cell ∷ []) b walk
   next-told walked is = (subst (λ (o : Option Walked). TellsWalked w most_followed cells a b walk (Ok o)) is tells).0
@@ -146,11 +146,11 @@ module _ {D : Type 0} (w : ℕ) (cells : List Cell) (a b : Drive) (walk : WalkVi
       by_case None never is = record { leading = record { known = known; legal = is.0.legal; few = is.0.few }; recovers = is.1 }
       by_case (Some walked) never is = absurd (never walked refl)
 
--- a walk that has begun along a log has its width
+-- A walk that has begun along a log has its width.
 pub along-width : (a b : Drive) (w : ℕ) → Stays a b → IsWidthOf b w → (bytes : List ℕ) → a.bytes ≡ Some bytes → HasWidth w bytes
 along-width a b w stays is bytes told = is.named bytes (stays.bytes ∙ told)
 
--- a log whose width was read, and then its cells
+-- A log whose width was read, and then its cells.
 module _ {D T : Type 0} (drive : D → Drive) (a b : Drive) (x : T) (first : OnlyReads a b (Ok x)) (w : ℕ) (has : (bytes : List ℕ) → a.bytes ≡ Some bytes → HasWidth w bytes) (result : Result (Leader D) (OpenRefused D))
     (found : IfOk result (λ l. (l.width ≡ w) × FindsLeader w b l.cells.items))
     (wrong : IfErr result (λ e. (bytes : List ℕ) → b.bytes ≡ Some bytes → IsFault oldest_read (Some w) most_followed bytes e.cause))

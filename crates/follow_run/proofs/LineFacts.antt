@@ -14,11 +14,11 @@ lines-append n (x ∷ xs) ys =
     ap (λ l. report_line n x ++ l) (lines-append (n + 1) xs ys ∙ ap (λ (k : ℕ). lines_from (n + 1) xs ++ lines_from k ys) e)
     ∙ sym (append_assoc (report_line n x) (lines_from (n + 1) xs) (lines_from (n + length (x ∷ xs)) ys))
 
--- the text of the first lines, so many
+-- The text of the first lines.
 abbrev pub text_to : List Report → ℕ → List ℕ
 text_to reports i = report_title ++ lines_from 1 (take i reports)
 
--- one line more
+-- One more line.
 text-more : (reports : List Report) (i : ℕ) (d : Report) → i < length reports → text_to reports i ++ report_line (i + 1) (get_or reports i d) ≡ text_to reports (i + 1)
 text-more reports i d lt =
     let front : List Report = take i reports in
@@ -28,19 +28,19 @@ text-more reports i d lt =
     ∙ ap (λ l. report_title ++ l)
     (ap (λ l. lines_from 1 front ++ l) (sym (append-nil (report_line (i + 1) r)) ∙ ap (λ (k : ℕ). lines_from k (r ∷ [])) (sym long)) ∙ sym (lines-append 1 front (r ∷ [])) ∙ ap (λ (l : List Report). lines_from 1 l) (sym (take_more reports i d lt)))
 
--- all lines
+-- All lines.
 text-all : (reports : List Report) (i : ℕ) → i ≡ length reports → text_to reports i ≡ reports_text reports
 unfolding reports_text
 text-all reports i end = ap (λ (l : List Report). report_title ++ lines_from 1 l) (ap (λ n. take n reports) end ∙ take-length reports)
 
--- the lines that are left
+-- The lines that are left.
 text-rest : (reports : List Report) (i : ℕ) → text_to reports i ++ lines_from (1 + length (take i reports)) (drop i reports) ≡ reports_text reports
 unfolding reports_text
 text-rest reports i =
     append_assoc report_title (lines_from 1 (take i reports)) (lines_from (1 + length (take i reports)) (drop i reports))
     ∙ ap (λ l. report_title ++ l) (sym (lines-append 1 (take i reports) (drop i reports)) ∙ ap (λ (l : List Report). lines_from 1 l) (take-append-drop i reports))
 
--- so many lines were added
+-- `index` lines were added.
 pub record HasLines (old now : Option (List ℕ)) (faults later : ℕ) (reports : List Report) (index : ℕ) (held : List ℕ) : Type 0 where
   pub moved : Moves old now (text_to reports index) held
   pub same : later ≡ faults
@@ -59,7 +59,7 @@ module _ (old : Option (List ℕ)) (faults : ℕ) (reports : List Report) where
         same = same ∙ h.same;
       }
 
-  -- a fault on the way of a line
+  -- A fault in the middle of a line.
   pub lines-lost : (mid now : Option (List ℕ)) (later index : ℕ) (held lost : List ℕ) (d : Report) → HasLines old mid faults later reports index held
       → Moves mid now (held ++ report_line (index + 1) (get_or reports index d)) lost → index < length reports
       → Moves old now (reports_text reports) (lost ++ lines_from (1 + length (take (index + 1) reports)) (drop (index + 1) reports))
@@ -68,6 +68,6 @@ module _ (old : Option (List ℕ)) (faults : ℕ) (reports : List Report) where
       let rest : List ℕ = lines_from (1 + length (take (index + 1) reports)) (drop (index + 1) reports) in
       moves-is old now (text_to reports (index + 1) ++ rest) (reports_text reports) (lost ++ rest) (text-rest reports (index + 1)) (moves-more old now (text_to reports (index + 1)) lost rest next.moved)
 
-  -- all were added
+  -- All lines were added.
   pub lines-all : (now : Option (List ℕ)) (later index : ℕ) (held : List ℕ) → HasLines old now faults later reports index held → index ≡ length reports → Moves old now (reports_text reports) held
   lines-all now later index held h end = moves-is old now (text_to reports index) (reports_text reports) held (text-all reports index end) h.moved

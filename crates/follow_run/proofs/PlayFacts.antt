@@ -39,12 +39,12 @@ use Rattle.run_ends.specs.Status.{status_of}
 use Rattle.follow_run.specs.Replica.{machine_at, calls_at, calls_of, calls_of_turns, AreLast, IsStop, LeavesFrom, follow_refusal, most_behind}
 use Rattle.follow_run.specs.Playing.{PassesTurns, HasPlayed, LosesTurn, PlaysAll, StopsPlaying}
 
--- a refusal, handed on
+-- A refusal, passed on.
 pub passed-on : {T E : Type 0} (result : Result T E) (e : E) (P : E → Type 0) → IsErrAnd result (λ x. x ≡ e) → P e → IfErr result P
 passed-on (Ok x) e P is holds = tt
 passed-on (Err f) e P is holds = subst P (sym is) holds
 
--- one turn more
+-- One more turn.
 after-append : (count : ℕ) (s : Following) (turns : List Turn) (t : Turn) → after_turns count s (turns ++ t ∷ []) ≡ after_turn count (after_turns count s turns) t
 after-append count s [] t = refl
 after-append count s (u ∷ turns) t = after-append count (after_turn count s u) turns t
@@ -59,11 +59,11 @@ calls-append : (count : ℕ) (s : Following) (turns : List Turn) (t : Turn)
 calls-append count s [] t = omega arith
 calls-append count s (u ∷ turns) t = omega (arith, calls-append count (after_turn count s u) turns t)
 
--- no call, and calls behind calls
+-- No call, and calls after calls.
 none-made : (old new : Drive) → HasNoMore old.calls new.calls → Made [] old new
 none-made old new none all told = (all, none all told, sym (append-nil all))
 
--- so many calls, and none before them
+-- A number of calls, and none before them.
 pub none-before : (n : ℕ) → n ≡ 0 + n
 none-before n = omega arith
 
@@ -71,7 +71,7 @@ pub well-more : (n m : ℕ) (old mid new : Drive) → MadeWell n old mid → Mad
 well-more n m old mid new first last =
     subst (λ (l : List Bool). Made l old new) (replicate-append-replicate n m true) (made-then (replicate n true) (replicate m true) old mid new first last)
 
--- which calls a turn makes
+-- The calls of a turn.
 module _ (count : ℕ) (s : Following) (a b : Drive) where
   arrive-calls : (packet : ℕ) → MakesCalls count s (Arrive packet) a b → MadeWell (calls_of count s (Arrive packet)) a b
   arrive-calls packet makes = of ((cell_of packet s == s.held) && nat_lt s.held count) refl
@@ -93,7 +93,7 @@ module _ (count : ℕ) (s : Following) (a b : Drive) where
   turn-well (Ack number) makes = well-none a b (makes.1 (λ brings. absurd brings))
   turn-well Restart makes = ⊎_elim (λ one. record { count = 1; calls = one }) (λ more. record { count = 3; calls = more.1 }) makes
 
--- a turn that wasn't made made no call behind one that failed
+-- A turn that wasn't made made no call after one that failed.
 refused-stops : (why : FollowFault) (a b : Drive) → CallsOfRefused why a b → StopsAtFault a b
 refused-stops (fault.Strange cell) a b made = ⊎_elim (λ one. inl (record { count = 1; calls = one })) (λ three. inl (record { count = 3; calls = three })) made
 refused-stops (fault.Log cause) a b made = stops-refused cause a b made
@@ -101,7 +101,7 @@ refused-stops (fault.Append cell) a b made = inr (record { went_well = made.0; c
 refused-stops fault.Disk a b made = absurd made
 refused-stops fault.Memory a b made = inl (well-none a b made)
 
--- a fault whose refusal hasn't the status of drives isn't theirs
+-- A fault whose refusal hasn't the status of drives isn't a drive's.
 pub drives-told : (why : FollowFault) → status_of (follow_refusal why) ≢ 7 → is_drives why ≡ false
 drives-told (fault.Strange cell) other = refl
 drives-told (fault.Log open_fault.NotLog) other = refl
@@ -114,21 +114,21 @@ drives-told (fault.Append cell) other = absurd (other refl)
 drives-told fault.Disk other = absurd (other refl)
 drives-told fault.Memory other = refl
 
--- no turn loses a cell
+-- No turn loses a cell.
 held-rises : (count : ℕ) (s : Following) (t : Turn) → s.held ≤ (after_turn count s t).held
 held-rises count s (Send cell) = omega arith
 held-rises count s (Arrive packet) = held-grows count (cell_of packet s) s.held
 held-rises count s (Ack number) = omega arith
 held-rises count s Restart = omega arith
 
--- a packet that brings the next cell brings one that there is
+-- A packet that carries the next cell carries one that exists.
 brings-below : (count : ℕ) (s : Following) (t : Turn) → BringsNext count s t → s.held < count
 brings-below count s (Send cell) next = absurd next
 brings-below count s (Arrive packet) next = next.1
 brings-below count s (Ack number) next = absurd next
 brings-below count s Restart next = absurd next
 
--- how many cells a crash leaves behind a fault, told by its refusal
+-- How many cells a crash leaves after a fault, in terms of its refusal.
 left-behind : (why : FollowFault) (held : ℕ) → most_left why held ≡ most_behind (follow_refusal why) held
 left-behind (fault.Strange cell) held = refl
 left-behind (fault.Log open_fault.NotLog) held = refl
@@ -141,7 +141,7 @@ left-behind (fault.Append cell) held = refl
 left-behind fault.Disk held = refl
 left-behind fault.Memory held = refl
 
--- so many, or one more
+-- At most `made`, or one more.
 up_to : (n made : ℕ) → n ≤ made + 1 → (n ≤ made) ⊎ (n ≡ made + 1)
 up_to n made le = let h : n ≤ suc made = omega arith in ⊎_elim (λ below. inl below) (λ last. inr (last ∙ sym (add-one made))) (le-suc_iff.0 h)
 
@@ -161,30 +161,30 @@ module _ (count first : ℕ) (turns : List Turn) (made : ℕ) (d : Turn) (below 
   pub next-turn : drop made turns ≡ get_or turns made d ∷ drop (made + 1) turns
   next-turn = drop-cons turns made d below ∙ ap (λ (n : ℕ). get_or turns made d ∷ drop n turns) (sym (add-one made))
 
--- a drive goes on telling its bytes, or not
+-- A drive's bytes stay known or unknown.
 told-after : (a b : Option (List ℕ)) (bytes : List ℕ) → is_some b ≡ is_some a → a ≡ Some bytes → (now : List ℕ) × (b ≡ Some now)
 told-after a b bytes same told = told-before b a bytes (sym same) told
 
 module _ {D : Type 0} (drive : D → Drive) (w : ℕ) (cells : List Cell) (first : ℕ) (turns : List Turn) (start : Drive) where
-  -- what a crash leaves now, exactly
+  -- What a crash leaves now, exactly.
   pub exactly : (f : FollowerView D) → f.width ≡ w → HoldsFirst drive cells f → (bytes : List ℕ) → (drive f.disk).bytes ≡ Some bytes → LeavesNow (drive f.disk) (Recovers w (take f.state.held cells))
   exactly f width holds bytes told = subst (λ (v : ℕ). LeavesNow (drive f.disk) (Recovers v (take f.state.held cells))) width (log-recovers f.width cells holds.leading.legal f.state.held (drive f.disk) (holds.log bytes told))
 
-  -- at least and at most so many of them, in the newest version
+  -- At least `least`, and at most `most` of them, in the newest version.
   leaves-at : (f : FollowerView D) → f.width ≡ w → HoldsFirst drive cells f → (bytes : List ℕ) → (drive f.disk).bytes ≡ Some bytes → (least most : ℕ) → least ≤ f.state.held → f.state.held ≤ most
       → LeavesNow (drive f.disk) (RecoversFirst w cells least most)
   leaves-at f width holds bytes told least most low high =
       subst (λ (v : ℕ). LeavesNow (drive f.disk) (RecoversFirst v cells least most)) width
       (first-log f.width cells holds.leading.legal f.state.held least most low high (drive f.disk) (holds.log bytes told))
 
-  -- the text of them
+  -- The text of these cells.
   log-at : (f : FollowerView D) → f.width ≡ w → HoldsFirst drive cells f → (bytes : List ℕ) → (drive f.disk).bytes ≡ Some bytes → IsLog w (take f.state.held cells) (drive f.disk)
   log-at f width holds bytes told = subst (λ (v : ℕ). IsLog v (take f.state.held cells) (drive f.disk)) width (holds.log bytes told)
 
   wider : (low least most : ℕ) (c : List ℕ) → least ≤ low → most ≤ length cells → RecoversFirst w cells low most c → RecoversFirst w cells least (length cells) c
   wider low least most c le few is = record { count = is.count; least_is = omega (arith, is.least_is, le); most_is = omega (arith, is.most_is, few); recovers = is.recovers; version = is.version }
 
-  -- a follower that was just opened
+  -- A follower that was just opened.
   pub played-none : (f : FollowerView D) → f.state ≡ opened_with first → f.width ≡ w → HoldsFirst drive cells f → AreTurns turns → start ≡ drive f.disk → KeepsLaws (drive f.disk) → HasPlayed drive w cells first turns 0 start f
   played-none f state width holds are here laws =
       let held : f.state.held ≡ first = ap (λ (s : Following). s.held) state in
@@ -219,7 +219,7 @@ module _ {D : Type 0} (drive : D → Drive) (w : ℕ) (cells : List Cell) (first
     told_now : (bytes : List ℕ) → start.bytes ≡ Some bytes → (now : List ℕ) × ((drive f.disk).bytes ≡ Some now)
     told_now bytes told = told-after start.bytes (drive f.disk).bytes bytes has.told told
 
-    -- what a stretch behind these turns leaves
+    -- What a stretch after these turns leaves.
     passes-on : (new : Drive) (most : ℕ) → most ≤ length cells → LeavesFirst f.width cells f.state.held most (drive f.disk) new → (bytes : List ℕ) → start.bytes ≡ Some bytes → PassesTurns w cells first turns made start new
     passes-on new most few leaves bytes told =
         let now = told_now bytes told in
@@ -288,7 +288,7 @@ module _ {D : Type 0} (drive : D → Drive) (w : ℕ) (cells : List Cell) (first
               };
         }
 
-    -- the turns end here
+    -- The turns end here.
     pub played-all : (told : List Report) → made ≡ length turns → told ≡ reports (length cells) (opened_with first) (take made turns) → PlaysAll w cells first turns start (drive f.disk) told
     played-all told end are =
         let count : ℕ = length cells in
@@ -310,7 +310,7 @@ module _ {D : Type 0} (drive : D → Drive) (w : ℕ) (cells : List Cell) (first
           file = has.file;
         }
 
-    -- the next turn isn't made
+    -- The next turn isn't made.
     module _ (d : Turn) (below : made < length turns) (disk : D) (laws : KeepsLaws (drive disk)) where
       at_now : drop made turns ≡ get_or turns made d ∷ drop (made + 1) turns
       at_now = next-turn (length cells) first turns made d below
@@ -349,7 +349,7 @@ module _ {D : Type 0} (drive : D → Drive) (w : ℕ) (cells : List Cell) (first
       free_since why (inr (inl memory)) = inr (inl memory)
       free_since why (inr (inr rose)) = inr (inr (rose_since rose))
 
-      -- what its calls answered, where the bytes are known
+      -- The results of its calls, if the bytes are known.
       last-calls : (why : FollowFault) (bytes : List ℕ) → (drive f.disk).bytes ≡ Some bytes → IsTurnCause drive cells (get_or turns made d) f disk why → CallsOfRefused why (drive f.disk) (drive disk)
           → (last : List Bool) × AreLast (follow_refusal why) last × Made last (drive f.disk) (drive disk)
       last-calls (fault.Strange cell) bytes told is calls = absurd (is.1 bytes told)

@@ -1,4 +1,4 @@
--- The second file: its attach, its opening, and the turns behind it.
+-- The second file: its attach, its opening, and the turns after it.
 use Rattle.std.proofs.Common.{◌≡◌, ◌⊎◌, inl, inr, ⊎_elim, ◌∙◌, ℕ, ◌+◌, ◌*◌, ◌<◌, Bool, true, List, ◌++◌, length, replicate, take, drop, Some, None, is_some, Result, refl, sym, ap, subst, arith, append_assoc}
 use Rattle.std.specs.Prelude.{if◌then◌else◌, nat_lt}
 use Rattle.std.proofs.lemmas.Bool.{lt-ltb, le-ltb}
@@ -45,13 +45,13 @@ use Rattle.follow_run.specs.Replica.{machine_at, calls_at, calls_to_open, IsRepl
 use Rattle.follow_run.specs.Playing.{OpensReplica, LosesReplica, PlaysAll, StopsPlaying, EndsPlaying}
 use Rattle.follow_run.proofs.PlayFacts.{drives-told, none-before, well-more}
 
--- an answer that the bytes don't decide is want of memory where the count didn't rise
+-- A result that the bytes don't decide is a lack of memory, if the fault count didn't rise.
 free-memory : (a b : Drive) (why : FollowFault) → IsFree a b why → (Rose a.faults b.faults → ⊥) → follow_refusal why ≡ refusal.Memory
 free-memory a b why (inl memory) calm = ap follow_refusal memory
 free-memory a b why (inr (inl memory)) calm = ap follow_refusal memory
 free-memory a b why (inr (inr rose)) calm = absurd (calm rose)
 
--- a file that was attached, and what was done to it behind that
+-- A file that was attached, and what was done to it afterwards.
 module _ (w : ℕ) (cells : List Cell) (a b : Drive) (laws : KeepsLaws a) (stays : Stays a b) where
   untouched-after : (c : Drive) → IsUntouched b c → IsUntouched a c
   untouched-after c is = record {
@@ -79,7 +79,7 @@ module _ (w : ℕ) (cells : List Cell) (a b : Drive) (laws : KeepsLaws a) (stays
     other = λ bytes told none. untouched-attached;
   }
 
-  -- it wasn't attached
+  -- The file wasn't attached.
   pub lost-attached : (name : List ℕ) (why : Refusal) → RefusesAttach name true a b why → LosesReplica w cells name a b why
   lost-attached name why refuses = record {
     cause =
@@ -98,7 +98,7 @@ module _ (w : ℕ) (cells : List Cell) (a b : Drive) (laws : KeepsLaws a) (stays
   }
 
   module _ (name : List ℕ) (attached : AttachedOne name true a b) (same : b.faults ≡ a.faults) where
-    -- a follower was opened
+    -- A follower was opened.
     pub opened : {D : Type 0} (drive : D → Drive) (f : FollowerView D) → Opens drive w cells b f → KeepsTarget w cells b (drive f.disk)
         → ((bytes : List ℕ) (why : OpenFault) → b.bytes ≡ Some bytes → 17 < length bytes → IsInBytes why → IsFault newest (Some w) most_held bytes why → ⊥)
         → ((bytes : List ℕ) (cell : ℕ) → b.bytes ≡ Some bytes → IsStrange w cells bytes cell → ⊥) → OpensReplica drive w cells name a f
@@ -135,7 +135,7 @@ module _ (w : ℕ) (cells : List Cell) (a b : Drive) (laws : KeepsLaws a) (stays
       memory : (Rose a.faults c.faults → ⊥) → IsFree b c why → follow_refusal why ≡ refusal.Memory
       memory calm free = free-memory b c why free (λ rose. calm (rose_since rose))
 
-      -- none was
+      -- No follower was opened.
       pub lost : ((bytes : List ℕ) (e : OpenFault) → b.bytes ≡ Some bytes → 17 < length bytes → IsInBytes e → IsFault newest (Some w) most_held bytes e → (why ≡ fault.Log e) ⊎ IsFree b c why)
           → ((bytes : List ℕ) (cell : ℕ) → b.bytes ≡ Some bytes → IsStrange w cells bytes cell → (why ≡ fault.Strange cell) ⊎ IsFree b c why)
           → ((bytes : List ℕ) (first : ℕ) → b.bytes ≡ Some bytes → IsTaken w cells bytes first → IsFree b c why) → KeepsTarget w cells b c → LosesReplica w cells name a c (follow_refusal why)
@@ -151,7 +151,7 @@ module _ (w : ℕ) (cells : List Cell) (a b : Drive) (laws : KeepsLaws a) (stays
         attached = attaches-one name true a c (status_of (follow_refusal why)) (attached-still name true a b c attached refuses.file);
       }
 
--- the reports of all turns were written
+-- The reports of all turns were written.
 pub plays-told : {T E : Type 0} (w : ℕ) (cells : List Cell) (first : ℕ) (turns : List Turn) (old new : Drive) (before after : Output) (told : List Report) (wrote : Result T E) → PlaysAll w cells first turns old new told
     → Puts before.taken after.taken (reports_text told) wrote → Counts before.faults after.faults wrote → EndsPlaying w cells first turns old new (written_status wrote) before after
 plays-told {T = T} {E = E} w cells first turns old new before after told wrote plays puts counts =
@@ -175,7 +175,7 @@ plays-told {T = T} {E = E} w cells first turns old new before after told wrote p
       file = plays.file;
     }
 
--- the turns stopped
+-- The turns stopped.
 pub plays-stopped : (w : ℕ) (cells : List Cell) (first : ℕ) (turns : List Turn) (old new : Drive) (before after : Output) (why : FollowFault) (status : ℕ) → StopsPlaying w cells first turns old new why
     → Refuses (follow_refusal why) status before after → EndsPlaying w cells first turns old new status before after
 plays-stopped w cells first turns old new before after why status stops refuses = record {
@@ -191,7 +191,7 @@ plays-stopped w cells first turns old new before after why status stops refuses 
   file = stops.file;
 }
 
--- no follower was opened
+-- No follower was opened.
 pub ends-unopened : (w : ℕ) (cells : List Cell) (turns : List Turn) (name : List ℕ) (old new : Drive) (before after : Output) (why : Refusal) (status : ℕ) → LosesReplica w cells name old new why → Refuses why status before after
     → EndsReplica w cells turns name old new status before after
 ends-unopened w cells turns name old new before after why status loses refuses =
@@ -210,7 +210,7 @@ ends-unopened w cells turns name old new before after why status loses refuses =
       attached = attaches-as name true old new status (status_of why) is loses.attached;
     }
 
--- why turns stop, told of the drive as it was before
+-- Why turns stop, in terms of the drive as it was before.
 module _ (w count : ℕ) (s : Following) (rest : List Turn) (a b new : Drive) (same : b.faults ≡ a.faults) (untold : IsUntold b → IsUntold a) where
   opens-before : OpensUntold rest b → OpensUntold rest a
   opens-before is = (is.0, untold is.1)
@@ -237,7 +237,7 @@ module _ (w count : ℕ) (s : Following) (rest : List Turn) (a b new : Drive) (s
   stop-before refusal.Memory is = tt
   stop-before (refusal.InUse len) is = absurd is
 
--- how many device calls opened the second file, as its bytes say where they are known
+-- How many device calls opened the second file, as its bytes decide if they are known.
 opening : (held : ℕ) (old new : Drive) → CallsToFollow held old new → (n : ℕ) × MadeWell n old new × ((bytes : List ℕ) → old.bytes ≡ Some bytes → n ≡ calls_to_open bytes held)
 opening held old new (inl (short, none, made)) = (
   2,
@@ -264,7 +264,7 @@ opening held old new (inr (long, inr (beyond, made))) = (
       sym (ap (λ (b : Bool). if b then rest else 2) (lt-ltb 17 n (long bytes told)) ∙ ap (λ (b : Bool). if b then 3 else 1) (lt-ltb (17 + 32 * held) n (beyond bytes told))),
 )
 
--- a follower was opened, and turns played
+-- A follower was opened, and turns were played.
 module _ {D : Type 0} (drive : D → Drive) (w : ℕ) (cells : List Cell) (turns : List Turn) (name : List ℕ) (old new : Drive) (before after : Output) (f : FollowerView D) (status : ℕ)
     (opens : OpensReplica drive w cells name old f) (plays : EndsPlaying w cells f.state.held turns (drive f.disk) new status before after) where
   told_then : (bytes : List ℕ) → old.bytes ≡ Some bytes → (now : List ℕ) × ((drive f.disk).bytes ≡ Some now)
@@ -279,7 +279,7 @@ module _ {D : Type 0} (drive : D → Drive) (w : ℕ) (cells : List Cell) (turns
   abbrev of_turns : ℕ
   of_turns = calls_at (length cells) f.state.held turns plays.made
 
-  -- the calls of the turns, and what the last ones answered, behind those of the opening
+  -- The calls of the turns, with the results of the last ones, after those of the opening.
   calls-then : (last : List Bool) → Made (replicate (0 + of_turns) true ++ last) (drive f.disk) new → Made (replicate (by.0 + of_turns) true ++ last) old new
   calls-then last calls =
       subst (λ (l : List Bool). Made l old new) (sym (append_assoc (replicate by.0 true) (replicate of_turns true) last) ∙ ap (λ (l : List Bool). l ++ last) (replicate-append-replicate by.0 of_turns true))

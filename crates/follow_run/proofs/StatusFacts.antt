@@ -1,4 +1,4 @@
--- `follow` doesn't tell that its words aren't accepted.
+-- `follow` never says that its words aren't accepted.
 use Rattle.std.proofs.Common.{◌≡◌, ◌⊎◌, inl, inr, ℕ, List}
 use Rattle.cell_format.specs.declared.cell.Cell.{Cell}
 use Rattle.io_edge.specs.Streams.{Output}

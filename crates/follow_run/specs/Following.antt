@@ -25,16 +25,16 @@ use Rattle.log_run.specs.Checking.{HasReadLog}
 use Rattle.follow_run.specs.Leading.{FindsLeader, RecoversLeader, IsLeaderCause}
 use Rattle.follow_run.specs.Replica.{EndsReplica}
 
--- the turns of an input that isn't too long, or the first thing that is wrong
+-- The turns of an input that isn't too long, or its first fault.
 abbrev pub judged_turns : List ℕ → Result (List Turn) Refusal
 judged_turns input = judged_by turns_of_text input
 
--- the leader's cells aren't read, and nothing was done to the second drive
+-- The leader's cells aren't read, and the second drive is unchanged.
 pub record RefusesLeader {D : Type 0} (old new : Targets D) (status : ℕ) : Type 0 where
   pub refused : EndsRefused (IsLeaderCause old.drive new.drive) status old.output new.output
   pub other : new.other ≡ old.other
 
--- they are read, and followed in the file of this name on the second drive, by the same width
+-- The leader's cells are read, and followed in the file of this name on the second drive, with the same width.
 pub record FollowsLeader {D : Type 0} (file name : List ℕ) (turns : List Turn) (old new : Targets D) (status : ℕ) : Type 0 where
   pub width : ℕ
   pub cells : List Cell
@@ -42,13 +42,16 @@ pub record FollowsLeader {D : Type 0} (file name : List ℕ) (turns : List Turn)
   pub read : HasReadLog file old.drive new.drive
   pub ends : EndsReplica width cells turns name old.other_drive new.other_drive status old.output new.output
 
--- no count of faults of either drive rose
+-- No fault count of either drive rose.
 pub record AreCalm {D : Type 0} (old new : Targets D) : Type 0 where
   pub leader : Rose old.drive.faults new.drive.faults → ⊥
   pub replica : Rose old.other_drive.faults new.other_drive.faults → ⊥
 
--- What the bytes of both files decide, unless memory ran out or a count rose: a fault of the first one is told; where that one is read, a fault
--- of the second one, and the first of its cells that isn't the leader's; and where a follower takes the second, the status is 0.
+-- What the bytes of both files decide, unless memory ran out or a fault count rose.
+-- - A fault of the first file is reported.
+-- - If the first file is read, a fault of the second is reported, and so is the first of its cells that isn't the
+--   leader's.
+-- - If a follower accepts the second file, the status is 0.
 pub record AreDecided {D : Type 0} (old new : Targets D) (status : ℕ) : Type 0 where
   pub exact :
       (bytes : List ℕ) (fault : OpenFault) → old.drive.bytes ≡ Some bytes → IsInBytes fault
@@ -68,18 +71,19 @@ pub record AreDecided {D : Type 0} (old new : Targets D) (status : ℕ) : Type 0
       → IsTaken w cells bytes first → AreCalm old new
       → (Rose old.output.faults new.output.faults → ⊥) → (status ≡ 0) ⊎ (status ≡ 9)
 
--- The first file is read, and its cells followed in the second along turns: the order is attach, walk, attach, open, turns, lines. Bytes and
--- images of the first drive stay, whatever the status is.
+-- The first file is read, and its cells are followed in the second along turns. The order is attach, walk, attach,
+-- open, turns, lines. Bytes and images of the first drive stay the same, whatever the status is.
 pub record EndsFollowing {D : Type 0} (file name : List ℕ) (turns : List Turn) (old new : Targets D) (status : ℕ) : Type 0 where
   pub ends : RefusesLeader old new status ⊎ FollowsLeader file name turns old new status
   pub decided : AreDecided old new status
   pub stays : Stays old.drive new.drive
-  -- the first drive's count is as it was, but where a drive is what is told to have failed
+  -- The first drive's fault count is unchanged, unless the line says that a drive failed.
   pub calm : status ≢ 7 → new.drive.faults ≡ old.drive.faults
-  -- the first file is attached, and none is made
+  -- The first file is attached, and none is created.
   pub attached : AttachesOnce file false old.drive new.drive status
 
--- The source gave no turns: both drives are left as they were, and the source's count where it didn't fail. At most one byte behind the limit was taken.
+-- The source gave no turns. Both drives are unchanged, and so is the source's fault count if the source didn't fail. At
+-- most one byte after the limit was read.
 pub record GivesNoTurns {D : Type 0} (before after : Input) (old new : Targets D) (status : ℕ) : Type 0 where
   pub disk : new.disk ≡ old.disk
   pub other : new.other ≡ old.other
@@ -87,13 +91,14 @@ pub record GivesNoTurns {D : Type 0} (before after : Input) (old new : Targets D
   pub refused : EndsRefused (IsTableCause turns_of_text before after) status old.output new.output
   pub taken : ConsumesUpTo (most_bytes + 1) before.left after.left
 
--- all that the source had was read, and the cells were followed along its turns
+-- All bytes of the source were read, and the cells were followed along its turns.
 pub record GivesTurns {D : Type 0} (file name : List ℕ) (before after : Input) (old new : Targets D) (status : ℕ) : Type 0 where
   pub turns : List Turn
   pub read : ReadsTable turns_of_text before after turns
   pub ends : EndsFollowing file name turns old new status
 
--- What the bytes of a source decide, unless its count rose or memory ran out: what is wrong with them is told, and where they are turns, both files decide.
+-- What the bytes of a source decide, unless its fault count rose or memory ran out. A fault in them is reported. If
+-- they are turns, both files decide.
 pub record TurnsDecide {D : Type 0} (before after : Input) (old new : Targets D) (status : ℕ) : Type 0 where
   pub wrong :
       (bytes : List ℕ) (why : Refusal) → before.left ≡ Some bytes → judged_turns bytes ≡ Err why → (Rose before.faults after.faults → ⊥)
@@ -101,7 +106,7 @@ pub record TurnsDecide {D : Type 0} (before after : Input) (old new : Targets D)
   pub turns : (bytes : List ℕ) (turns : List Turn) → before.left ≡ Some bytes → judged_turns bytes ≡ Ok turns
       → (Rose before.faults after.faults → ⊥) → AreDecided old new status
 
--- how a run of `follow` goes, of what its source gave and what it wrote to
+-- How a run of `follow` ends, depending on what its source gave and what it wrote to.
 pub record GoesFollowing {D : Type 0} (file name : List ℕ) (before after : Input) (old new : Targets D) (status : ℕ) : Type 0 where
   pub goes : GivesNoTurns before after old new status ⊎ GivesTurns file name before after old new status
   pub decided : TurnsDecide before after old new status

@@ -28,7 +28,7 @@ use Rattle.run_ends.specs.Attaching.{AttachesOnce}
 use Rattle.run_ends.specs.LogFaults.{log_refusal}
 use Rattle.follow_run.specs.Replica.{machine_at, calls_at, IsReplicaCause, EndsTurns, StopsTurns, LeavesFrom, follow_refusal}
 
--- a follower was opened over the file of this name
+-- A follower was opened over the file of this name.
 pub record OpensReplica {D : Type 0} (drive : D → Drive) (w : ℕ) (cells : List Cell) (name : List ℕ) (old : Drive) (f : FollowerView D) : Type 0 where
   pub state : f.state ≡ opened_with f.state.held
   pub width : f.width ≡ w
@@ -38,13 +38,13 @@ pub record OpensReplica {D : Type 0} (drive : D → Drive) (w : ℕ) (cells : Li
   pub calm : (drive f.disk).faults ≡ old.faults
   pub calls : CallsToFollow f.state.held old (drive f.disk)
   pub keeps : KeepsTarget w cells old (drive f.disk)
-  -- where the bytes are known, nothing is at fault in them, and each cell is the leader's
+  -- If the bytes are known, they have no fault, and each of their cells is the leader's.
   pub sound : (bytes : List ℕ) (fault : OpenFault) → old.bytes ≡ Some bytes → 17 < length bytes → IsInBytes fault
       → IsFault newest (Some w) most_held bytes fault → ⊥
   pub own : (bytes : List ℕ) (cell : ℕ) → old.bytes ≡ Some bytes → IsStrange w cells bytes cell → ⊥
   pub attached : AttachedOne name true old (drive f.disk)
 
--- none was
+-- No follower was opened.
 pub record LosesReplica (w : ℕ) (cells : List Cell) (name : List ℕ) (old new : Drive) (why : Refusal) : Type 0 where
   pub cause : IsReplicaCause w cells old new why
   pub untouched : status_of why ≢ 7 → (bytes : List ℕ) → old.bytes ≡ Some bytes → IsUntouched old new
@@ -61,13 +61,13 @@ pub record LosesReplica (w : ℕ) (cells : List Cell) (name : List ℕ) (old new
   pub calls : StopsAtFault old new
   pub attached : AttachesOnce name true old new (status_of why)
 
--- what a crash leaves since a follower was opened: the first of the cells, at least as many as were held then, and at each turn at least as many as
--- were held before it
+-- What a crash leaves since a follower was opened: the first of the cells, at least as many as were held then. At each
+-- turn it leaves at least as many as were held before the turn.
 pub record PassesTurns (w : ℕ) (cells : List Cell) (first : ℕ) (turns : List Turn) (made : ℕ) (old new : Drive) : Type 0 where
   pub whole : LeavesOnly old new (RecoversFirst w cells first (length cells))
   pub from : (n : ℕ) → n ≤ made → LeavesFrom w cells (machine_at (length cells) first turns n).held new
 
--- so many turns were made since a follower was opened
+-- `made` turns were made since a follower was opened.
 pub record HasPlayed {D : Type 0} (drive : D → Drive) (w : ℕ) (cells : List Cell) (first : ℕ) (turns : List Turn) (made : ℕ) (old : Drive) (f : FollowerView D) : Type 0 where
   pub state : f.state ≡ machine_at (length cells) first turns made
   pub width : f.width ≡ w
@@ -82,7 +82,7 @@ pub record HasPlayed {D : Type 0} (drive : D → Drive) (w : ℕ) (cells : List 
   pub file : SameFile old (drive f.disk)
   pub passes : (bytes : List ℕ) → old.bytes ≡ Some bytes → PassesTurns w cells first turns made old (drive f.disk)
 
--- all turns were made, and these are their reports
+-- All turns were made, and these are their reports.
 pub record PlaysAll (w : ℕ) (cells : List Cell) (first : ℕ) (turns : List Turn) (old new : Drive) (told : List Report) : Type 0 where
   pub reports_are : told ≡ reports (length cells) (opened_with first) turns
   pub sound : (n : ℕ) → n ≤ length turns → IsSound (machine_at (length cells) first turns n)
@@ -95,7 +95,7 @@ pub record PlaysAll (w : ℕ) (cells : List Cell) (first : ℕ) (turns : List Tu
   pub calls : (bytes : List ℕ) → old.bytes ≡ Some bytes → MadeWell (calls_at (length cells) first turns (length turns)) old new
   pub file : SameFile old new
 
--- the turns stopped at a fault
+-- The turns stopped at a fault.
 pub record StopsPlaying (w : ℕ) (cells : List Cell) (first : ℕ) (turns : List Turn) (old new : Drive) (fault : FollowFault) : Type 0 where
   pub made : ℕ
   pub part : made ≤ length turns
@@ -108,13 +108,13 @@ pub record StopsPlaying (w : ℕ) (cells : List Cell) (first : ℕ) (turns : Lis
   pub calls : StopsAtFault old new
   pub file : SameFile old new
 
--- A turn was refused, or its report couldn't be kept. Where the bytes are known, the drive failed or memory ran out.
+-- A turn was refused, or its report couldn't be kept. If the bytes are known, the drive failed or memory ran out.
 pub record LosesTurn {D : Type 0} (drive : D → Drive) (cells : List Cell) (turn : Turn) (old : FollowerView D) (disk : D) (fault : FollowFault) : Type 0 where
   pub why : FailsTurn drive cells turn old disk fault
       ⊎ ((f : FollowerView D) × (f.disk ≡ disk) × (fault ≡ Memory) × MakesTurn drive cells turn old f)
   pub free : (bytes : List ℕ) → (drive old.disk).bytes ≡ Some bytes → IsFree (drive old.disk) (drive disk) fault
 
--- how turns end that are played since a follower was opened
+-- How turns end that are played since a follower was opened.
 pub record EndsPlaying (w : ℕ) (cells : List Cell) (first : ℕ) (turns : List Turn) (old new : Drive) (status : ℕ) (before after : Output) : Type 0 where
   pub made : ℕ
   pub part : made ≤ length turns

@@ -1,4 +1,4 @@
--- What `follow` does to the second file: it is opened over the leader's cells, and the turns are played.
+-- What `follow` does to the second file. The command opens it over the leader's cells, and plays the turns.
 use Rattle.std.specs.Prelude.{◌≡◌, ◌≢◌, ◌⊎◌, ◌+◌, ◌*◌, ◌<◌, ◌≤◌, nat_lt, ◌==◌, ◌&&◌, if◌then◌else◌, ℕ, Bool, List, [], ◌∷◌, ◌++◌, length, replicate, take, drop, Some, None, true, false, ⊤}
 use Rattle.causes.specs.Causes.{Rose}
 use Rattle.disk_trait.specs.Drive.{Drive, Made, MadeWell}
@@ -32,7 +32,7 @@ use Rattle.run_ends.specs.Ending.{EndsWriting, EndsRefused}
 use Rattle.run_ends.specs.Attaching.{AttachesOnce}
 use Rattle.follow_run.specs.Lines.{reports_text}
 
--- the refusal of a fault of a follower
+-- The refusal for a fault of a follower.
 abbrev pub follow_refusal : FollowFault → Refusal
 follow_refusal (follow_fault.Strange cell) = refusal.Strange cell
 follow_refusal (follow_fault.Log fault) = log_refusal fault
@@ -40,12 +40,13 @@ follow_refusal (follow_fault.Append cell) = refusal.Disk (Some cell)
 follow_refusal follow_fault.Disk = refusal.Disk None
 follow_refusal follow_fault.Memory = refusal.Memory
 
--- where the bytes are known, they are more than 17, and this is at fault in them for whoever opens a log
+-- If the bytes are known, they are more than 17, and have this fault for an opening of a log.
 abbrev pub ShowsLogFault : ℕ → Drive → OpenFault → Type 0
 ShowsLogFault w old fault = (bytes : List ℕ) → old.bytes ≡ Some bytes → (17 < length bytes) × IsFault newest (Some w) most_held bytes fault
 
--- Why the second file isn't opened: the first of its cells that isn't the leader's, what is first at fault in its bytes, the drive's count rose, or
--- memory ran out. Whether its bytes are known or not, no version and width of a log that is opened is told, and no cell that can't be.
+-- Why the second file isn't opened: the first of its cells that isn't the leader's, the first fault in its bytes, a
+-- risen fault count of the drive, or a lack of memory. Whether its bytes are known or not, the reason never names the
+-- version and width of a log that is opened, nor a cell that can't be named.
 abbrev pub IsReplicaCause : ℕ → List Cell → Drive → Drive → Refusal → Type 0
 IsReplicaCause w cells old new (refusal.Strange cell) =
     (cell ≤ length cells) × ((bytes : List ℕ) → old.bytes ≡ Some bytes → IsStrange w cells bytes cell)
@@ -58,18 +59,22 @@ IsReplicaCause w cells old new (refusal.Disk None) = Rose old.faults new.faults
 IsReplicaCause w cells old new refusal.Memory = ⊤
 IsReplicaCause w cells old new _ = ⊥
 
--- The second file isn't opened. But where the drive failed, it is left as it was where its bytes are known, and so is its count of faults.
+-- The second file isn't opened. The file, if its bytes are known, and the drive's fault count are unchanged, unless the
+-- drive failed.
 pub record IsUnopened (w : ℕ) (cells : List Cell) (old new : Drive) (status : ℕ) (before after : Output) : Type 0 where
   pub refused : EndsRefused (IsReplicaCause w cells old new) status before after
   pub untouched : status ≢ 7 → (bytes : List ℕ) → old.bytes ≡ Some bytes → IsUntouched old new
-  -- what a crash left there it leaves at each moment of the opening, which goes on only where a follower takes the file
+  -- What a crash left of the file before, it leaves at each moment of the opening. The opening changes the file only if
+  -- a follower accepts it.
   pub keeps : KeepsTarget w cells old new
 
--- the plain machine after the first of these turns, so many, where so many cells were held at first and the leader has so many
+-- The plain machine after the first `made` of these turns. `first` cells were held at the start, and the leader has
+-- `count` cells.
 abbrev pub machine_at : ℕ → ℕ → List Turn → ℕ → Following
 machine_at count first turns made = after_turns count (opened_with first) (take made turns)
 
--- how many writes, cuts and syncs a turn makes, where the bytes are known: four that add the next cell, a sync that opens the log again, and else none
+-- How many writes, cuts and syncs a turn makes, if the bytes are known: four to add the next cell, a sync to open the
+-- log again, otherwise none.
 abbrev pub calls_of : ℕ → Following → Turn → ℕ
 calls_of count s (Send cell) = 0
 calls_of count s (Arrive packet) = if (cell_of packet s == s.held) && nat_lt s.held count then 4 else 0
@@ -80,29 +85,31 @@ abbrev pub calls_of_turns : ℕ → Following → List Turn → ℕ
 calls_of_turns count s [] = 0
 calls_of_turns count s (t ∷ turns) = calls_of count s t + calls_of_turns count (after_turn count s t) turns
 
--- how many the first of these turns make, so many, since so many cells were held
+-- How many calls the first `made` turns make, if `first` cells were held at the start.
 abbrev pub calls_at : ℕ → ℕ → List Turn → ℕ → ℕ
 calls_at count first turns made = calls_of_turns count (opened_with first) (take made turns)
 
--- how many open the second file, of these bytes and with so many of the leader's cells: a write and a sync make a log of a small one, a sync opens one
--- that is longer, and a cut and a sync more do where something stands behind its cells
+-- How many calls open the second file, if it has these bytes and `first` of the leader's cells. A write and a sync
+-- create a log in a small file. A sync opens a longer one. A cut and a sync follow if bytes come after its cells.
 abbrev pub calls_to_open : List ℕ → ℕ → ℕ
 calls_to_open bytes first = if nat_lt 17 (length bytes) then (if nat_lt (17 + 32 * first) (length bytes) then 3 else 1) else 2
 
--- What the calls of the turn that wasn't made answered, where the bytes are known: some of the four of an append were answered Ok, and the next one
--- failed; those that open the log again did so, or they were answered Ok and a read failed, or memory ran out; or there was none.
+-- The results of the calls of the turn that wasn't made, if the bytes are known. In an append up to three went well,
+-- and the next one failed. In a restart up to two went well and the next one failed, or the sync went well and then a
+-- read failed or memory ran out. Or there was no call.
 abbrev pub AreLast : Refusal → List Bool → Type 0
 AreLast (refusal.Disk (Some cell)) answers = (n : ℕ) × (n ≤ 3) × (answers ≡ replicate n true ++ false ∷ [])
 AreLast (refusal.Disk None) answers = (answers ≡ true ∷ []) ⊎ ((n : ℕ) × (n ≤ 2) × (answers ≡ replicate n true ++ false ∷ []))
 AreLast refusal.Memory answers = (answers ≡ []) ⊎ (answers ≡ true ∷ [])
 AreLast _ answers = ⊥
 
--- the next turn opens the log again, and the drive doesn't tell its bytes
+-- The next turn opens the log again, and the drive's bytes are unknown.
 abbrev pub OpensUntold : List Turn → Drive → Type 0
 OpensUntold rest old = ((later : List Turn) × (rest ≡ Restart ∷ later)) × IsUntold old
 
--- Why the turns stop before these, at a state of the machine: the append of the next cell failed, or the drive did where the log was opened
--- again, or memory ran out. Only over a drive that doesn't tell its bytes a log that is opened again, of this width, may be found to be another.
+-- Why the turns stop before these, in a state of the machine. The append of the next cell failed, the drive failed
+-- while the log was opened again, or memory ran out. If the drive's bytes are unknown, a log that is opened again may
+-- also turn out to be another one, of this width.
 abbrev pub IsStop : ℕ → ℕ → Following → List Turn → Drive → Drive → Refusal → Type 0
 IsStop w count s rest old new (refusal.Disk (Some cell)) =
     ((turn : Turn) × (later : List Turn) × (rest ≡ turn ∷ later) × BringsNext count s turn) × (cell ≡ s.held) × Rose old.faults new.faults
@@ -115,13 +122,13 @@ IsStop w count s rest old new (refusal.Damaged cell cause) = OpensUntold rest ol
 IsStop w count s rest old new refusal.LongLog = OpensUntold rest old
 IsStop w count s rest old new _ = ⊥
 
--- how many cells a crash leaves at most, where so many are held: one more behind an append that failed
+-- The most cells that a crash leaves, if `held` cells are held: one more after an append that failed.
 abbrev pub most_behind : Refusal → ℕ → ℕ
 most_behind (refusal.Disk (Some cell)) held = held + 1
 most_behind _ held = held
 
--- All turns were made, and their reports told. The file is the text of the cells that are held, and a crash leaves these, exactly. Behind so many
--- device calls that opened it just those of the turns were made.
+-- All turns were made, and their reports were written. The file is the text of the cells that are held, and a crash
+-- leaves exactly these. After the `opened` calls that opened the file, only those of the turns were made.
 pub record TellsReports (w : ℕ) (cells : List Cell) (first : ℕ) (turns : List Turn) (made opened : ℕ) (old new : Drive) (status : ℕ) (before after : Output) : Type 0 where
   pub all : made ≡ length turns
   pub wrote : EndsWriting (reports_text (reports (length cells) (opened_with first) turns)) status before after
@@ -130,9 +137,9 @@ pub record TellsReports (w : ℕ) (cells : List Cell) (first : ℕ) (turns : Lis
   pub log : (bytes : List ℕ) → old.bytes ≡ Some bytes → IsLog w (take (machine_at (length cells) first turns made).held cells) new
   pub calls : (bytes : List ℕ) → old.bytes ≡ Some bytes → MadeWell (opened + calls_at (length cells) first turns made) old new
 
--- The turns stopped behind those that were made, for this reason. A crash leaves the cells that are held, exactly, or one more behind a failed
--- append; but where the drive failed, the file is their text. Behind so many device calls that opened it just those of the turns that were made were
--- made, and those of the turn that wasn't, none behind one that failed.
+-- The turns stopped after those that were made, for this reason. A crash leaves exactly the cells that are held, or one
+-- more after a failed append. Unless the drive failed, the file is their text. After the `opened` calls that opened the
+-- file come those of the turns that were made, and those of the turn that wasn't. No call follows one that failed.
 pub record StopsTurns (w : ℕ) (cells : List Cell) (first : ℕ) (turns : List Turn) (made opened : ℕ) (old new : Drive) (why : Refusal) : Type 0 where
   pub cause : IsStop w (length cells) (machine_at (length cells) first turns made) (drop made turns) old new why
   pub leaves :
@@ -145,21 +152,22 @@ pub record StopsTurns (w : ℕ) (cells : List Cell) (first : ℕ) (turns : List 
       (bytes : List ℕ) → old.bytes ≡ Some bytes
       → (last : List Bool) × AreLast why last × Made (replicate (opened + calls_at (length cells) first turns made) true ++ last) old new
 
--- the reports of all turns were written, or the turns stopped and the refusal was
+-- The reports of all turns were written, or the turns stopped and the refusal was written.
 abbrev pub EndsTurns : ℕ → List Cell → ℕ → List Turn → ℕ → ℕ → Drive → Drive → ℕ → Output → Output → Type 0
 EndsTurns w cells first turns made opened old new status before after =
     TellsReports w cells first turns made opened old new status before after
     ⊎ EndsRefused (StopsTurns w cells first turns made opened old new) status before after
 
--- a moment since which a crash leaves the first of the cells, at least so many
+-- A moment since which a crash leaves the first of the cells, at least `least` of them.
 pub record LeavesFrom (w : ℕ) (cells : List Cell) (least : ℕ) (new : Drive) : Type 0 where
   pub moment : ℕ
   pub ended : moment ≤ new.clock
   pub since : LeavesSince new moment (RecoversFirst w cells least (length cells))
 
--- What a crash leaves of the second file, where its bytes are known. At each moment that is what a crash left before it was opened, small bytes or
--- the cells that it had, or the first of the leader's cells, in the newest version. From when it was opened and some turns were made, these are at
--- least as many as were held then, of which no more were known to be.
+-- What a crash leaves of the second file, if its bytes are known. At each moment it is what a crash left before the
+-- opening, which is small bytes or the cells that the file had. Or it is the first of the leader's cells, in the newest
+-- version. After the opening and some turns, these are at least as many as were held then. The leader knows of no more
+-- than that.
 pub record KeepsFirst (w : ℕ) (cells : List Cell) (first : ℕ) (turns : List Turn) (made : ℕ) (old new : Drive) : Type 0 where
   pub small : (bytes : List ℕ) → old.bytes ≡ Some bytes → LeavesNow old IsSmall
       → LeavesOnly old new (λ image. IsSmall image ⊎ RecoversFirst w cells first (length cells) image)
@@ -171,7 +179,8 @@ pub record KeepsFirst (w : ℕ) (cells : List Cell) (first : ℕ) (turns : List 
       → LeavesFrom w cells (machine_at (length cells) first turns n).held new
   pub sound : (n : ℕ) → n ≤ made → IsSound (machine_at (length cells) first turns n)
 
--- The second file was opened by so many device calls, and had so many of the leader's cells then; so many turns were made.
+-- The second file was opened by `opened` device calls, and had `first` of the leader's cells then. `made` turns were
+-- made.
 pub record PlaysTurns (w : ℕ) (cells : List Cell) (turns : List Turn) (old new : Drive) (status : ℕ) (before after : Output) : Type 0 where
   pub first : ℕ
   pub few : first ≤ length cells
@@ -183,8 +192,9 @@ pub record PlaysTurns (w : ℕ) (cells : List Cell) (turns : List Turn) (old new
   pub ends : EndsTurns w cells first turns made opened old new status before after
   pub keeps : KeepsFirst w cells first turns made old new
 
--- What the bytes of the second file decide, unless its drive's count rose or memory ran out: a fault that they show is told, and the first cell that
--- isn't the leader's, and over bytes that a follower takes all turns are told.
+-- What the bytes of the second file decide, unless its drive's fault count rose or memory ran out. A fault that they
+-- show is reported, and so is the first cell that isn't the leader's. Over bytes that a follower accepts, all turns are
+-- reported.
 pub record IsDecidedThere (w : ℕ) (cells : List Cell) (old new : Drive) (status : ℕ) (before after : Output) : Type 0 where
   pub exact :
       (bytes : List ℕ) (fault : OpenFault) → old.bytes ≡ Some bytes → 17 < length bytes → IsInBytes fault
@@ -202,8 +212,8 @@ pub record IsDecidedThere (w : ℕ) (cells : List Cell) (old new : Drive) (statu
 pub record EndsReplica (w : ℕ) (cells : List Cell) (turns : List Turn) (name : List ℕ) (old new : Drive) (status : ℕ) (before after : Output) : Type 0 where
   pub ends : IsUnopened w cells old new status before after ⊎ PlaysTurns w cells turns old new status before after
   pub decided : IsDecidedThere w cells old new status before after
-  -- the drive's count is as it was, but where a drive is what is told to have failed; no call was made behind one that failed
+  -- The drive's fault count is unchanged, unless the line says that a drive failed. No call follows one that failed.
   pub calm : status ≢ 7 → new.faults ≡ old.faults
   pub calls : StopsAtFault old new
-  -- this file is attached, and made where it isn't there
+  -- This file is attached, and created if it isn't there.
   pub attached : AttachesOnce name true old new status

@@ -1,4 +1,4 @@
-//! The command `follow`: reads the leader's cells, and follows them in the second file along the turns of a source.
+//! The command `follow`. It reads the leader's cells, and copies them to the second file along the turns of a source.
 ghost use Rattle.std.specs.Prelude.{◌≡◌, ◌≢◌, ◌+◌, [], IfOk, IfErr};
 ghost use Rattle.io_edge.specs.Reads.{ConsumesUpTo};
 ghost use Rattle.follower.specs.Follow.{AreTurns};
@@ -16,8 +16,8 @@ use io_edge::{Sink, Source};
 use run_ends::{Drives, Ended, Refusal, Unmade, read_bytes, refusal_of, refuse_on};
 use std::alloc::Global;
 
-/// Copies the cells of the log in `file` on the first drive to `name` on the other one, along the turns of the source, and tells what is
-/// reported after each turn. Of the first drive it only reads.
+/// Copies the cells of the log in `file` on the first drive to `name` on the other drive, along the turns of the
+/// source. Writes the report of each turn. It only reads the first drive.
 pub fn follow_log<S: Source, K: Sink, D: LogDisk>(
     alloc: Global,
     file: &str,

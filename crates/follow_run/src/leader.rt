@@ -19,7 +19,7 @@ use recovery::{OpenFault, OpenRefused, Walk, Wanted};
 use run_ends::{Unmade, attach, log_refusal};
 use std::alloc::Global;
 
-/// How many cells a log that is followed may have.
+/// The most cells that a log may have to be followed.
 const MOST_FOLLOWED: u64 = 1 << 20;
 
 /// The cells of a log and its width, with the drive from which they were read.
@@ -30,7 +30,7 @@ pub(crate) struct Leader<D: LogDisk> {
     pub(crate) width: u8,
 }
 
-/// Reads the log in the file of this name, of version 1 or 2 and of either width.
+/// Reads the log in the file of this name. It has version 1 or 2, and either width.
 pub(crate) fn find_leader<D: LogDisk>(
     alloc: Global,
     file: &str,
@@ -51,7 +51,7 @@ pub(crate) fn find_leader<D: LogDisk>(
     }
 }
 
-// Reads the log on a drive by the width that it has.
+// Reads the log on a drive, with its own width.
 fn read_leader<D: LogDisk>(alloc: Global, disk: D) -> Result<Leader<D>, OpenRefused<D>>
     ensures found { IfOk result (λ l. FindsLeader l.width (D.drive disk) l.cells.items) }
     ensures fault { IfErr result (λ e. (bytes : List ℕ) → (D.drive disk).bytes ≡ Some bytes
@@ -75,7 +75,7 @@ fn read_leader<D: LogDisk>(alloc: Global, disk: D) -> Result<Leader<D>, OpenRefu
     }
 }
 
-// Goes along the log of a walk that has just begun.
+// Reads the log of a walk that has just begun.
 fn walk_leader<D: LogDisk>(alloc: Global, mut walk: Walk<D>) -> Result<Leader<D>, OpenRefused<D>>
     requires begun { ComesTo walk.reading.replay.width most_followed [] (D.drive walk.disk) walk }
     ensures found { IfOk result (λ l. (l.width ≡ walk.reading.replay.width)

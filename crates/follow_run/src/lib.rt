@@ -1,8 +1,12 @@
-//! The command `follow`: copies the cells of a log to another one, over a link that loses, repeats and reorders, along a schedule of turns.
+//! The command `follow`. It copies the cells of one log to another, over a link that loses, repeats and reorders
+//! packets, along a schedule of turns.
 //!
-//! Contracts see both drives by their bytes and what a crash may leave of them. `follow_log` promises that the reports are those of a plain
-//! machine of numbers, that no image of the first file changes, and that at each moment since the second one was opened a crash leaves the
-//! first of the first one's cells, at least as many as were held when the turn began: `Follows` is what a run of the command keeps.
+//! Contracts see both drives by their bytes and by what a crash may leave of them. `Follows` is what a run of the
+//! command keeps:
+//! - The reports are those of a plain machine of numbers.
+//! - No image of the first file changes.
+//! - At each moment since the second file was opened, a crash leaves the first of the leader's cells: at least as many
+//!   as were held when the turn began.
 //!
 //! Not here: what a turn does (`follower`), what commands share (`run_ends`), how a log is walked (`recovery`).
 #![tactic(auto)]

@@ -1,4 +1,4 @@
-//! The second file: it is opened over the leader's cells, and the turns are played.
+//! The second file. The command opens it over the leader's cells, and plays the turns.
 ghost use Rattle.std.specs.Prelude.{◌≡◌, ◌++◌, ◌∷◌, length, [], IfOk, IfErr};
 ghost use Rattle.follower.specs.Follow.{AreTurns, NamesSent, opened_with, report_of};
 ghost use Rattle.follower.specs.Holding.{AreLeading, HoldsFirst};
@@ -16,7 +16,7 @@ use run_ends::{
 };
 use std::alloc::Global;
 
-/// Follows the leader's cells in the file of this name along turns, and tells their reports.
+/// Follows the leader's cells in the file of this name along turns, and writes their reports.
 pub(crate) fn copy_to<K: Sink, D: LogDisk>(
     alloc: Global,
     cells: &[Cell],
@@ -64,7 +64,7 @@ fn open_replica<D: LogDisk>(
     }
 }
 
-// Makes turns from an opened follower on, and tells their reports. The first drive is passed on.
+// Makes turns with a follower that was just opened, and writes their reports. Passes the first drive on.
 fn turn_and_tell<K: Sink, D: LogDisk>(
     alloc: Global,
     follower: Follower<D>,
@@ -98,14 +98,14 @@ fn turn_and_tell<K: Sink, D: LogDisk>(
     }
 }
 
-// The drive behind all turns, and their reports.
+// The drive after all turns, and their reports.
 #[derive(Drop)]
 struct Played<D: LogDisk> {
     disk: D,
     reports: Vec<Report>,
 }
 
-// A follower on its way along turns, and what it reported so far.
+// A follower in the middle of its turns, and its reports so far.
 #[derive(Drop)]
 struct Playing<D: LogDisk> {
     follower: Follower<D>,

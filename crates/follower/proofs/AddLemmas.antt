@@ -1,4 +1,4 @@
--- The adding of a cell.
+-- How a cell is added.
 use Rattle.std.proofs.Common.{◌≡◌, ℕ, ◌+◌, ◌≤◌, Bool, false, List, [], ◌∷◌, ◌++◌, refl, sym, ◌∙◌, subst}
 use Rattle.std.specs.Prelude.{Result, Ok, Err, is_ok, is_err, if◌then◌else◌}
 use Rattle.std.proofs.lemmas.Bool.{true≢false}
@@ -9,13 +9,13 @@ use Rattle.split_log.specs.LogView.{LogView}
 use Rattle.follower.specs.Adding.{LeavesEither, IsAdded, FailsToAdd}
 use Rattle.follower.specs.Holding.{FollowerView}
 
--- a push that didn't fail
+-- A push that didn't fail.
 pub pushed : {E : Type 0} (r : Result (Unit {0}) E) (failed : Bool) (old new : List ℕ) (x y : ℕ) → failed ≡ is_err r → failed ≡ false → x ≡ y
     → new ≡ (if is_ok r then old ++ x ∷ [] else old) → new ≡ old ++ y ∷ []
 pushed (Ok done) failed old new x y tested went same items = subst (λ (n : ℕ). new ≡ old ++ n ∷ []) same items
 pushed (Err e) failed old new x y tested went same items = absurd (true≢false (sym tested ∙ went))
 
--- the follower before and after an append
+-- The follower before and after an append.
 module _ {D : Type 0} (drive : D → Drive) (cell : Cell) (log now : LogView D) (w known : ℕ) (packets acks : List ℕ) (old : FollowerView D)
     (before : ◌≡◌ {A = FollowerView D} (record { disk = log.disk; width = w; state = record { held = log.cells; known = known; packets = packets; acks = acks } }) old)
     (any_moment : LeavesEither cell (drive log.disk) (drive now.disk)) where
@@ -38,4 +38,4 @@ module _ {D : Type 0} (drive : D → Drive) (cell : Cell) (log now : LogView D) 
   add_failed disk number same later fails =
       subst (λ (o : FollowerView D). FailsToAdd cell number o.state.held (drive o.disk) (drive disk)) before
       (subst (λ (d : D). FailsToAdd cell number log.cells (drive log.disk) (drive d)) (sym same)
-      (record { named = fails.named; rose = fails.rose; later = later; calls = (fails.broken.went_well, fails.broken.stops); file = fails.file; now = fails.either; any_moment = any_moment }))
+      (record { named = fails.named; rose = fails.rose; told = fails.told; later = later; calls = (fails.broken.went_well, fails.broken.stops); file = fails.file; now = fails.either; any_moment = any_moment }))

@@ -1,4 +1,4 @@
--- Cells that are the same.
+-- Cells that are equal.
 use Rattle.std.proofs.Common.{◌≡◌, ℕ, ◌<◌, Bool, zero, suc, List, [], ◌∷◌, length, get_or, refl, sym, ◌∙◌, ap, arith}
 use Rattle.std.specs.Prelude.{◌==◌, ◌↔◌, IsTrue}
 use Rattle.std.specs.Cmp.Lexicographic.{pointwise, pointwise_decides}
@@ -7,7 +7,7 @@ use Rattle.cell_format.specs.declared.cell.Cell.{Cell}
 use Rattle.cell_format.specs.Spelling.{newest, Spells, spelling}
 use Rattle.cell_format.proofs.Decoded.{same_cell}
 
--- cells are the same whose bytes are
+-- Cells are equal if and only if their bytes are.
 pub same_test : (a b : Cell) (x y : List ℕ) (test : Bool) → Spells newest a x → Spells newest b y → test ≡ pointwise (λ p q. p == q) x y → IsTrue test ↔ (a ≡ b)
 same_test a b x y test first second is = (
   λ yes. same_cell a b first.fits second.fits (sym first.spelled ∙ (pointwise_decides unsigned_Decides x y).0 (sym is ∙ yes) ∙ second.spelled),
@@ -19,7 +19,7 @@ any_default [] n d e lt = absurd (omega (arith, lt))
 any_default (x ∷ xs) zero d e lt = refl
 any_default (x ∷ xs) (suc n) d e lt = any_default xs n d e (omega (arith, lt))
 
--- the cell at a place
+-- The cell at a place.
 pub at_test : (cells : List Cell) (n : ℕ) (there cell : Cell) (test : Bool) → n < length cells → there ≡ get_or cells n there → IsTrue test ↔ (there ≡ cell) → IsTrue test ↔ ((n < length cells) × (get_or cells n cell ≡ cell))
 at_test cells n there cell test lt is same = (
   λ yes. (lt, any_default cells n cell there lt ∙ sym is ∙ same.0 yes),

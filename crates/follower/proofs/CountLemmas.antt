@@ -30,7 +30,7 @@ only_read-trans a b c first second = record {
   file = λ all told. first.file all (second.file all told);
 }
 
--- what a walk tells behind its head may be told of a log of the newest version
+-- A fault that a walk returns after its head may be returned of a log of the newest version.
 behind_may : (w number : ℕ) (e : OpenFault) → IsBehind most_held number e → MayTell newest (Some w) most_held e
 behind_may w number open_fault.NotLog is = absurd is
 behind_may w number (open_fault.OldLog version width) is = absurd is
@@ -39,7 +39,7 @@ behind_may w number open_fault.Disk is = tt
 behind_may w number open_fault.Memory is = tt
 behind_may w number (open_fault.TooLong limit) is = is.0
 
--- and what may be told of a log of either version
+-- So may a fault of a log of either version.
 newest_may : (w : ℕ) (e : OpenFault) → MayTell 1 (Some w) most_held e → MayTell newest (Some w) most_held e
 newest_may w open_fault.NotLog is = tt
 newest_may w (open_fault.OldLog version width) is =
@@ -49,7 +49,7 @@ newest_may w open_fault.Disk is = tt
 newest_may w open_fault.Memory is = tt
 newest_may w (open_fault.TooLong limit) is = is
 
--- one call of `next`
+-- One call of `next`.
 module _ {D : Type 0} (w : ℕ) (cells : List Cell) (start now next : Drive) (walk new : WalkView D) (tally : Tally) (counting : IsCounting w cells start now walk tally) where
   pub stopped : (e : OpenFault) → ((v most : ℕ) (own : List Cell) → ComesTo v most own now walk → TellsWalked v most own now next new (Err e)) → StopsCounting w start next new e
   stopped e tells =
@@ -80,7 +80,7 @@ module _ {D : Type 0} (w : ℕ) (cells : List Cell) (start now next : Drive) (wa
       reads = only_read-trans start now next counting.reads (record { stays = reads.stays; calm = reads.same; file = reads.file });
     }
 
--- what is at fault for whoever reads both versions is so for whoever reads the newest, where that is the version
+-- A fault for a reader of both versions is one for a reader of the newest, if that is the version.
 newest_fault : (w : ℕ) (bytes : List ℕ) (e : OpenFault) → slice_index bytes 8 ≡ newest → IsFault 1 (Some w) most_held bytes e → IsFault newest (Some w) most_held bytes e
 newest_fault w bytes open_fault.NotLog named is = is
 newest_fault w bytes (open_fault.OldLog version width) named is = record {
@@ -115,7 +115,7 @@ newest_fault w bytes (open_fault.TooLong limit) named is = (
 newest_fault w bytes open_fault.Disk named is = tt
 newest_fault w bytes open_fault.Memory named is = tt
 
--- and where it's of the head, whatever the version is
+-- The same for a fault of the head, whatever the version is.
 head_fault : (w : ℕ) (bytes : List ℕ) (e : OpenFault) → IsOfHead e → IsFault 1 (Some w) most_held bytes e → IsFault newest (Some w) most_held bytes e
 head_fault w bytes open_fault.NotLog head is = is
 head_fault w bytes (open_fault.OldLog version width) head is = record {
@@ -140,7 +140,7 @@ not_started w a b e fault head may reads = record {
   file = reads.file;
 }
 
--- a log of an older version, of which these cells were walked
+-- A log of an older version. These of its cells were walked.
 old_log : {D : Type 0} (w version : ℕ) (own : List Cell) (drive : Drive) (walk : WalkView D) (bytes : List ℕ) → ComesTo w most_held own drive walk → drive.bytes ≡ Some bytes → 17 < length bytes
     → version ≡ slice_index bytes 8 → version < newest → IsOldLog newest (Some w) bytes version w
 old_log w version own drive walk bytes came told long named older =
@@ -158,7 +158,7 @@ old_log w version own drive walk bytes came told long named older =
       other = inl (λ (wanted : IsWanted newest version). omega (arith, wanted.least, older));
     }
 
--- the walk after the call of `start`, that of `count_same`, and that of `finish`
+-- The walk after the call of `start`, that of `count_same`, and that of `finish`.
 module _ {D : Type 0} (drive : D → Drive) (w : ℕ) (cells : List Cell) (a : Drive) (long : (bytes : List ℕ) → a.bytes ≡ Some bytes → 17 < length bytes) (first walk : WalkView D) (version : ℕ) (disk : D)
     (begins : ComesTo w most_held [] (drive first.disk) first) (start : OnlyReads {T = Unit {0}} a (drive first.disk) (Ok tt)) (result : Result Tally OpenFault)
     (done : IfOk result (Counts first.reading.replay.width cells (drive first.disk) (drive walk.disk) walk)) (failed : IfErr result (StopsCounting first.reading.replay.width (drive first.disk) (drive walk.disk) walk))
@@ -206,7 +206,7 @@ module _ {D : Type 0} (drive : D → Drive) (w : ℕ) (cells : List Cell) (a : D
         };
       })
 
-  -- what is told of a log that isn't opened
+  -- The result for a log that isn't opened.
   told_cause : (e : OpenFault) → IsJudged version w result (Err e) → (bytes : List ℕ) → a.bytes ≡ Some bytes → IsFault newest (Some w) most_held bytes e
   told_cause e (inl passed) bytes told =
       ⊎_elim (λ new. newest_fault w bytes e (sym (version_is bytes told) ∙ new) (fault_at e passed.0 bytes told)) (λ drives. subst (IsFault newest (Some w) most_held bytes) (sym drives) tt) passed.1

@@ -1,4 +1,4 @@
--- A leader's list that has grown: what holds of a list holds of a longer one that begins with it.
+-- A leader's list that has grown. What holds of a list holds of a longer one that begins with it.
 use Rattle.std.proofs.Common.{◌≡◌, ℕ, ◌≤◌, List, ◌++◌, length, take, min, sym, ◌∙◌, ap, subst, arith, length-append}
 use Rattle.std.proofs.lemmas.List.{take-append-le, take_min}
 use Rattle.cell_format.specs.declared.cell.Cell.{Cell}
@@ -9,7 +9,7 @@ use Rattle.log_state.specs.Recovers.{Recovers}
 use Rattle.follower.specs.Holding.{FollowerView, HoldsFirst, LeavesFirst, RecoversFirst, AreLeading}
 
 module _ (first more cells : List Cell) (grown : first ++ more ≡ cells) where
-  -- the first ones of both are the same
+  -- The first cells of both are the same.
   same_first : (n : ℕ) → n ≤ length first → take n first ≡ take n cells
   same_first n le = sym (take-append-le n first more le) ∙ ap (take n) grown
 

@@ -12,11 +12,11 @@ grows : (b : Bool) (n : ℕ) → n ≤ (if b then n + 1 else n)
 grows true n = omega arith
 grows false n = omega arith
 
--- no cell is lost by a packet
+-- A packet loses no cell.
 pub held-grows : (count packet held : ℕ) → held ≤ held_after count packet held
 held-grows count packet held = grows ((packet == held) && nat_lt held count) held
 
--- the next one is added
+-- The next cell is added.
 pub held-next : (count packet held : ℕ) → packet ≡ held → held < count → held_after count packet held ≡ held + 1
 held-next count packet held is below = ap (λ b. if b then held + 1 else held) (both_true (eq-eqb packet held is) (lt-ltb held count below))
 
@@ -34,7 +34,7 @@ all-up : (h k : ℕ) → h ≤ k → (xs : List ℕ) → AllByRecursion (λ (a :
 all-up h k le [] all = tt
 all-up h k le (x ∷ xs) all = (omega (arith, all.0, le), all-up h k le xs all.1)
 
--- a turn makes no more known, and acknowledges no more, than is held
+-- After a turn at most as many cells are known to be held, and were acknowledged, as are held.
 pub sound-after : (count : ℕ) (s : Following) (t : Turn) → IsSound s → IsSound (after_turn count s t)
 sound-after count s (Send cell) sound = record { known = sound.known; acks = sound.acks }
 sound-after count s (Arrive packet) sound =
@@ -47,7 +47,7 @@ sound-after count s (Arrive packet) sound =
 sound-after count s (Ack number) sound = record { known = omega (arith, sound.known, all-read s.held s.acks (number - 1) sound.acks); acks = sound.acks }
 sound-after count s Restart sound = sound
 
--- how many packets, and acknowledgements, were sent after a turn
+-- How many packets, and acknowledgements, were sent after a turn.
 pub packets-after : (count : ℕ) (s : Following) (t : Turn) → length (after_turn count s t).packets ≡ packets_after (length s.packets) t
 packets-after count s (Send cell) = length-append s.packets (cell ∷ [])
 packets-after count s (Arrive packet) = refl

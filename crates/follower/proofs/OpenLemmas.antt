@@ -1,4 +1,4 @@
--- What the opening of a follower comes to.
+-- What the opening of a follower leads to.
 use Rattle.std.proofs.Common.{◌≡◌, ℕ, ◌+◌, ◌*◌, ◌<◌, ◌≤◌, ◌⊎◌, inl, inr, ⊎_elim, Bool, true, false, ltb, List, [], ◌∷◌, length, replicate, take, Some, None, is_some, refl, sym, ◌∙◌, ap, subst, lit≤, arith, length-append}
 use Rattle.std.specs.Prelude.{slice_index}
 use Rattle.std.proofs.Math.Seq.{take-length}
@@ -50,7 +50,7 @@ apart x y = of (ltb x y) refl
 newest_wanted : IsWanted newest newest
 newest_wanted = record { least = lit≤ tt; most = lit≤ tt }
 
--- a log has its cells, and a commit byte behind them
+-- A log has its cells, and a commit byte after them.
 long_enough : (v w : ℕ) (own : List Cell) (bytes : List ℕ) → HoldsCells v w own bytes → 17 + 32 * length own ≤ length bytes
 long_enough v w own bytes holds =
     omega (arith, ap length holds.parts, length-append holds.front holds.rest, ap length holds.text.text, length-append (front_of v w own) (holds.text.commit_byte ∷ []), length-front_of v w own)
@@ -66,7 +66,7 @@ module _ (w : ℕ) (bytes : List ℕ) where
   no_fault own log f shown is = recovers_no_fault newest w most_held (lit≤ tt) bytes own f log.recovers (wanted own log) log.few shown is
 
 module _ (w : ℕ) (cells : List Cell) (bytes : List ℕ) where
-  -- the first of them are the same where more are
+  -- If more of the first cells are the same, fewer are too.
   fewer : (own : List Cell) (n m : ℕ) → n ≤ m → take m own ≡ take m cells → take n own ≡ take n cells
   fewer own n m le same = sym (take-take n m own le) ∙ ap (take n) same ∙ take-take n m cells le
 
@@ -75,18 +75,18 @@ module _ (w : ℕ) (cells : List Cell) (bytes : List ℕ) where
       let one : a.own ≡ b.own = one_log w bytes a.own b.own a.openable b.openable in
       a.other (ap (take (n + 1)) one ∙ fewer b.own (n + 1) m (omega (arith, lt)) b.same)
 
-  -- there is one first cell that isn't the leader's
+  -- There is only one first cell that isn't the leader's.
   strange_once : (n m : ℕ) → IsStrange w cells bytes n → IsStrange w cells bytes m → n ≡ m
   strange_once n m a b = ⊎_elim (λ lt. absurd (not_before n m a b lt)) (λ le. ⊎_elim (λ gt. absurd (not_before m n b a gt)) (λ ge. omega (arith, le, ge)) (apart m n)) (apart n m)
 
-  -- and none in what is taken
+  -- A file that is accepted has none.
   strange_taken : (n held : ℕ) → IsStrange w cells bytes n → IsTaken w cells bytes held → ⊥
   strange_taken n held s (inl small) = omega (arith, small.0, s.there, long_enough s.openable.recovers.version w s.own bytes s.openable.recovers.holds)
   strange_taken n held s (inr log) =
       let one : s.own ≡ take held cells = one_log w bytes s.own (take held cells) s.openable log.2 in
       s.other (ap (take (n + 1)) one ∙ take-take (n + 1) held cells (omega (arith, s.there, ap length one, length-take-le held cells log.1)))
 
-  -- what is taken has no fault
+  -- A file that is accepted has no fault.
   pub taken_no_fault : (held : ℕ) (f : OpenFault) → IsTaken w cells bytes held → 17 < length bytes → IsInBytes f → IsFault newest (Some w) most_held bytes f → ⊥
   taken_no_fault held f (inl small) long shown is = omega (arith, small.0, long)
   taken_no_fault held f (inr log) long shown is = no_fault w bytes (take held cells) log.2 f shown is
@@ -111,7 +111,7 @@ module _ (w : ℕ) (cells : List Cell) (bytes : List ℕ) where
     told_exact Disk f refused shown is = inr (inr (inr (refused.rose refl)))
     told_exact Memory f refused shown is = absurd refused.cause
 
-    -- what stands there may be opened, and isn't
+    -- If the log may be opened and isn't, the result is free.
     open_free : (e : OpenFault) (own : List Cell) → RefusesOpen w cells old new (Log e) → IsOpenable w own bytes → IsFree old new (Log e)
     open_free e own refused log =
         free_log e (told_free newest w most_held (lit≤ tt) bytes old new e own (refused.cause bytes told).1 (failed_log e refused) log.recovers (wanted w bytes own log) log.few)
@@ -131,7 +131,7 @@ module _ (w : ℕ) (cells : List Cell) (bytes : List ℕ) where
     told_whole Disk held refused taken = inr (inr (refused.rose refl))
     told_whole Memory held refused taken = absurd refused.cause
 
--- a follower over the log that was opened
+-- A follower over the log that was opened.
 pub opens : {D : Type 0} (drive : D → Drive) (w : ℕ) (cells : List Cell) (old : Drive) (log : LogView D) (packets acks : List ℕ) → AreLeading w cells → OpensLog drive w cells old log → packets ≡ [] → acks ≡ []
     → Opens drive w cells old (record { disk = log.disk; width = w; state = record { held = log.cells; known = 0; packets = packets; acks = acks } })
 opens {D = D} drive w cells old log packets acks leading is none_sent none_back =
@@ -154,7 +154,7 @@ opens {D = D} drive w cells old log packets acks leading is none_sent none_back 
     view : List ℕ → List ℕ → FollowerView D
     view xs ys = record { disk = log.disk; width = w; state = record { held = log.cells; known = 0; packets = xs; acks = ys } }
 
--- what a call that only reads leaves
+-- What a call that only reads leaves.
 pub untouched_read : (a b : Drive) → Stays a b → IsUntouched a b
 untouched_read a b stays = record { bytes = stays.bytes; images = stays.images; since = λ t c le left. inl (stays.since t c left) }
 
@@ -168,7 +168,7 @@ untouched_before a b c stays un = record {
 leaves_before : (a b c : Drive) (P : List ℕ → Type 0) → KeepsLaws a → Stays a b → LeavesNow a P → (LeavesNow b P → LeavesOnly b c P) → LeavesOnly a c P
 leaves_before a b c P laws stays now later = leaves-trans a b c P (leaves-stays a b P laws now stays) (later (λ x left. now x (stays.images x left)))
 
--- which calls were made since a drive was only read, since before that
+-- The calls after a drive was only read are the calls since before that.
 module _ (a b : Drive) (stays : Stays a b) where
   none_before : (c : Drive) → HasNoMore b.calls c.calls → HasNoMore a.calls c.calls
   none_before c none all told = stays.calls all (none all told)
@@ -205,7 +205,7 @@ module _ (a b : Drive) (stays : Stays a b) where
   not_before_read Disk c made = ⊎_elim (λ none. inl (none_before c none)) (λ (k, stops). inr (k, stops_before 1 k c stops)) made
   not_before_read Memory c made = made
 
--- whatever is told of an opening that was refused, no call was made behind one that failed
+-- No call follows one that failed in an opening that was refused, whatever its fault is.
 pub stops_unfollowed : (fault : FollowFault) (old new : Drive) → CallsNotToFollow fault old new → StopsAtFault old new
 stops_unfollowed (Strange n) old new made =
     ⊎_elim (λ none. inl (well-none old new none)) (λ more. ⊎_elim (λ one. inl (record { count = 1; calls = one })) (λ three. inl (record { count = 3; calls = three })) more.1) made
@@ -237,6 +237,7 @@ module _ (w : ℕ) (cells : List Cell) (a b : Drive) (reads : IsOnlyRead a b) wh
   refused_before c fault is = record {
     cause = cause_before c fault is.cause;
     may = is.may;
+    told = is.told ∙ ap is_some reads.stays.bytes;
     rose = λ failed. omega (arith, reads.calm, is.rose failed);
     calm = λ quiet. is.calm quiet ∙ reads.calm;
     untouched = λ quiet bytes told. untouched_before a b c reads.stays (is.untouched quiet bytes (reads.stays.bytes ∙ told));
@@ -253,7 +254,7 @@ module _ (w : ℕ) (cells : List Cell) (a b : Drive) (reads : IsOnlyRead a b) wh
     other = λ bytes told none. untouched_before a b c reads.stays (is.other bytes (reads.stays.bytes ∙ told) none);
   }
 
--- a log that was made
+-- A log that was created.
 module _ {D : Type 0} (drive : D → Drive) (w : ℕ) (cells : List Cell) (old : Drive) (new : D) (makes : Makes w old (drive new)) where
   log_made : (bytes : List ℕ) → (drive new).bytes ≡ Some bytes → IsLog w [] (drive new)
   log_made bytes told = let before = told-before old.bytes (drive new).bytes bytes makes.told told in (makes.log before.0 before.1).1
@@ -277,17 +278,18 @@ module _ {D : Type 0} (drive : D → Drive) (w : ℕ) (cells : List Cell) (old :
     file = file;
   }
 
--- a file that is longer was only read
+-- A file that is longer was only read.
 pub read_in_use : (a b : Drive) (cause : InitFault) (len : ℕ) → RefusesInit a b cause → cause ≡ init_fault.InUse len → SameFile a b → IsOnlyRead a b
 read_in_use a b cause len refused is file = let found = subst (RefusesInit a b) is refused in record { stays = found.2; calm = found.3; file = file }
 
--- a log wasn't made, since the drive failed
+-- No log was created, because the drive failed.
 pub not_made : (w : ℕ) (cells : List Cell) (a b : Drive) (cause : InitFault) → RefusesInit a b cause → cause ≡ init_fault.Disk → KeepsSmall a b → RefusesOpen w cells a b Disk
 not_made w cells a b cause refused is keeps =
     let fails = subst (RefusesInit a b) is refused in
     record {
       cause = λ bytes told long. (keeps.in_use bytes told long).calls;
       may = λ why told. absurd (cc told);
+      told = fails.told;
       rose = λ failed. fails.rose;
       calm = λ quiet. absurd (true≢false quiet);
       untouched = λ quiet. absurd (true≢false quiet);
@@ -296,7 +298,7 @@ not_made w cells a b cause refused is keeps =
       file = keeps.file;
     }
 
--- a file of which a log was made, or not for the drive
+-- A file in which a log was created, or wasn't because of the drive.
 pub target_made : (w : ℕ) (cells : List Cell) (a b : Drive) → KeepsLaws a → KeepsSmall a b → KeepsTarget w cells a b
 target_made w cells a b laws keeps = record {
   small = λ bytes told now. keeps.small now;
@@ -306,7 +308,7 @@ target_made w cells a b laws keeps = record {
       ⊎_elim (λ long. untouched_read a b (keeps.in_use bytes told long)) (λ short. absurd (none 0 (inl (short, refl)))) (apart 17 (length bytes));
 }
 
--- a log that was walked
+-- A log that was walked.
 module _ (w : ℕ) (cells : List Cell) (a b : Drive) (long : (bytes : List ℕ) → a.bytes ≡ Some bytes → 17 < length bytes) where
   drives_log : (e : OpenFault) → is_drives (Log e) ≡ true → e ≡ open_fault.Disk
   drives_log open_fault.Disk is = refl
@@ -320,6 +322,7 @@ module _ (w : ℕ) (cells : List Cell) (a b : Drive) (long : (bytes : List ℕ) 
   not_compared e is = record {
     cause = λ bytes told. (long bytes told, is.cause bytes told);
     may = λ why told. let same : e ≡ why = cc told in subst (MayTell newest (Some w) most_held) same is.may;
+    told = ap is_some is.stays.bytes;
     rose = λ failed. is.rose (drives_log e failed);
     calm = λ quiet. is.calm (quiet_log e quiet);
     untouched = λ quiet bytes told. untouched_read a b is.stays;
@@ -338,6 +341,7 @@ module _ (w : ℕ) (cells : List Cell) (a b : Drive) (long : (bytes : List ℕ) 
             record { own = found.own; openable = found.openable; there = omega (arith, less, found.count_is); same = found.same_is; other = found.other less },
       );
       may = λ why told. absurd (cc told);
+      told = ap is_some is.reads.stays.bytes;
       rose = λ failed. absurd (true≢false (sym failed));
       calm = λ quiet. is.reads.calm;
       untouched = λ quiet bytes told. untouched_read a b is.reads.stays;
@@ -350,7 +354,7 @@ module _ (w : ℕ) (cells : List Cell) (a b : Drive) (long : (bytes : List ℕ) 
       same_count : same ≡ count
       same_count = omega (arith, all, is.few)
 
-      -- all of its cells are the leader's first ones
+      -- All of its cells are the leader's first ones.
       are_first : (bytes : List ℕ) → a.bytes ≡ Some bytes → IsOpenable w (take count cells) bytes
       are_first bytes told =
           let found = is.found bytes told in
@@ -381,7 +385,7 @@ module _ (w : ℕ) (cells : List Cell) (a b : Drive) (long : (bytes : List ℕ) 
         file = λ names told. is.reads.file names (re.file names told);
       }
 
-      -- a log whose bytes are known has as many cells as were counted
+      -- A log whose bytes are known has as many cells as were counted.
       other_untold : (c : Drive) (n : ℕ) → RefusesReopen w count b c (Strange n) → IsUntold a
       other_untold c n re bytes told = let found = is.found bytes told in re.cause.1 bytes found.own (is.reads.stays.bytes ∙ told) found.openable.recovers found.count_is
 
@@ -410,6 +414,7 @@ module _ (w : ℕ) (cells : List Cell) (a b : Drive) (long : (bytes : List ℕ) 
       refused_again c fault re = record {
         cause = again_cause c fault re;
         may = re.may;
+        told = re.told ∙ ap is_some is.reads.stays.bytes;
         rose = λ failed. omega (arith, is.reads.calm, re.rose failed);
         calm = λ quiet. re.calm quiet ∙ is.reads.calm;
         untouched = again_untouched c fault re;

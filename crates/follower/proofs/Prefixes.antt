@@ -14,14 +14,14 @@ use Rattle.log_state.proofs.LegalCells.{legal-front}
 use Rattle.recovery.proofs.HeadLemmas.{index_version}
 use Rattle.follower.specs.Holding.{RecoversFirst}
 
--- a crash leaves a log's cells
+-- A crash leaves a log's cells.
 pub log-leaves : (w : ℕ) (cells : List Cell) (drive : Drive) → IsLog w cells drive → LeavesNow drive (HoldsCells newest w cells)
 log-leaves w cells drive log c left = holds_front w cells log.bytes [] c log.text (log.durable c left ∙ sym (append-nil log.bytes))
 
 some_same : (a b : List ℕ) → Some a ≡ Some b → a ≡ b
 some_same a b same = cc same
 
--- and its bytes have them
+-- The bytes of a log hold its cells.
 pub log-holds : (w : ℕ) (cells : List Cell) (drive : Drive) (bytes : List ℕ) → IsLog w cells drive → drive.bytes ≡ Some bytes → HoldsCells newest w cells bytes
 log-holds w cells drive bytes log told = holds_front w cells log.bytes [] bytes log.text (some_same bytes log.bytes (sym told ∙ log.told) ∙ sym (append-nil log.bytes))
 
@@ -42,7 +42,7 @@ module _ (w : ℕ) (cells : List Cell) (legal : IsLegalCells w cells) where
   pub bytes-recover : (n : ℕ) (drive : Drive) (bytes : List ℕ) → IsLog w (take n cells) drive → drive.bytes ≡ Some bytes → Recovers w (take n cells) bytes
   bytes-recover n drive bytes log told = recovers-held n bytes (log-holds w (take n cells) drive bytes log told)
 
-  -- at least and at most so many of them
+  -- At least `least`, and at most `most` of them.
   module _ (n least most : ℕ) (low : least ≤ n) (high : n ≤ most) where
     pub first-held : (c : List ℕ) → HoldsCells newest w (take n cells) c → RecoversFirst w cells least most c
     first-held c holds = record { count = n; least_is = low; most_is = high; recovers = recovers-held n c holds; version = index_version newest w (take n cells) c holds }

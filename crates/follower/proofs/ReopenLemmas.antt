@@ -25,6 +25,7 @@ other_count drive w count number seen a b c back ready kept other least = subst 
         other (sym found_count ∙ ap length one ∙ count_is),
   );
   may = λ why is. absurd (cc is);
+  told = ready.told;
   rose = λ failed. absurd (true≢false (sym failed));
   calm = λ quiet. ready.same;
   untouched = λ why is. absurd (cc is);
@@ -49,7 +50,7 @@ same_count drive w count seen a log ready kept is same = record {
   newest = ready.newest;
 }
 
--- the drive failed exactly where that is why a log isn't opened
+-- The drive failed if and only if that is why a log isn't opened.
 drives_disk : (why : OpenFault) → is_drives (Log why) ≡ true → why ≡ open_fault.Disk
 drives_disk open_fault.NotLog is = absurd (true≢false (sym is))
 drives_disk (open_fault.OldLog version width) is = absurd (true≢false (sym is))
@@ -62,6 +63,7 @@ pub not_opened : (w count : ℕ) (a b : Drive) (why : OpenFault) → RefusesWant
 not_opened w count a b why refused kept = record {
   cause = refused.fault.shows;
   may = λ other is. let same : why ≡ other = cc is in subst (MayTell newest (Some w) most_cells) same refused.fault.may;
+  told = refused.leaves.told;
   rose = λ failed. refused.fault.rose (drives_disk why failed);
   calm = λ quiet. refused.leaves.calm (λ disk. true≢false (subst (λ e. is_drives (Log e) ≡ false) disk quiet));
   untouched = λ other is sound. let same : why ≡ other = cc is in refused.leaves.unfailed (λ disk. sound (sym same ∙ disk));

@@ -1,4 +1,4 @@
--- What a turn comes to.
+-- What a turn leads to.
 use Rattle.std.proofs.Common.{◌≡◌, ℕ, ◌+◌, ◌*◌, ◌<◌, ◌≤◌, false, inl, inr, ⊎_elim, List, length, take, Option, Some, None, is_some, refl, sym, ◌∙◌, ap, subst, lit≤, arith}
 use Rattle.std.specs.Prelude.{◌≢◌}
 use Rattle.std.proofs.lemmas.Bool.{true≢false}
@@ -34,12 +34,12 @@ use Rattle.follower.specs.Turning.{CallsOfRefused, MakesCalls, TakesRoom, IsTurn
 use Rattle.follower.proofs.Machine.{held-next, sound-after}
 use Rattle.follower.proofs.Prefixes.{log-recovers, log-leaves, bytes-recover, log-version, first-held, first-log}
 
--- a drive that tells its bytes told them before
+-- A drive whose bytes are known had known bytes before.
 pub told-before : (a b : Option (List ℕ)) (bytes : List ℕ) → is_some b ≡ is_some a → b ≡ Some bytes → (old : List ℕ) × (a ≡ Some old)
 told-before None b bytes same told = absurd (true≢false (sym (ap is_some told) ∙ same))
 told-before (Some old) b bytes same told = (old, refl)
 
--- as many as are held, or one more
+-- As many cells as are held, or one more.
 held-left : (fault : FollowFault) (held : ℕ) → held ≤ most_left fault held
 held-left (Strange cell) held = omega arith
 held-left (Log why) held = omega arith
@@ -47,11 +47,11 @@ held-left (Append cell) held = omega arith
 held-left Disk held = omega arith
 held-left Memory held = omega arith
 
--- a fault of a log that doesn't say that the drive failed
+-- A fault of a log that doesn't say that the drive failed.
 pub quiet_log : (e : OpenFault) → is_drives (Log e) ≡ false → e ≢ open_fault.Disk
 quiet_log e quiet is = true≢false (sym (ap (λ f. is_drives (Log f)) is) ∙ quiet)
 
--- a stretch that leaves the one leaves the other
+-- A stretch that leaves two predicates leaves both together.
 leaves-both : (old new : Drive) (P Q : List ℕ → Type 0) → LeavesOnly old new P → LeavesOnly old new Q → LeavesOnly old new (λ c. P c × Q c)
 leaves-both old new P Q first second = record {
   later = first.later;
@@ -59,7 +59,7 @@ leaves-both old new P Q first second = record {
   before = λ t c le left. ⊎_elim (λ was. inl was) (λ one. ⊎_elim (λ was. inl was) (λ other. inr (one, other)) (second.before t c le left)) (first.before t c le left);
 }
 
--- a log that is left as it was
+-- A log that stays unchanged.
 log-untouched : (w : ℕ) (own : List Cell) (old new : Drive) → IsUntouched old new → IsLog w own old → IsLog w own new
 log-untouched w own old new un log = record { bytes = log.bytes; told = un.bytes ∙ log.told; text = log.text; durable = λ c left. log.durable c (un.images c left) }
 
@@ -70,13 +70,13 @@ newest_wanted : IsWanted newest newest
 newest_wanted = record { least = lit≤ tt; most = lit≤ tt }
 
 module _ {D : Type 0} (drive : D → Drive) (cells : List Cell) (old : FollowerView D) (laws : KeepsLaws (drive old.disk)) (holds : HoldsFirst drive cells old) where
-  -- where nothing is done, a crash leaves them
+  -- If nothing is done, a crash leaves the cells.
   stands : LeavesFirst old.width cells old.state.held old.state.held (drive old.disk) (drive old.disk)
   stands bytes told =
       started (drive old.disk) (RecoversFirst old.width cells old.state.held old.state.held) laws
       (first-log old.width cells holds.leading.legal old.state.held old.state.held old.state.held (omega arith) (omega arith) (drive old.disk) (holds.log bytes told))
 
-  -- a turn that leaves the drive, and as many cells
+  -- A turn that leaves the drive and the number of cells unchanged.
   pub quiet : (turn : Turn) (new : FollowerView D) → new ≡ with_state (after_turn (length cells) old.state turn) old → (after_turn (length cells) old.state turn).held ≡ old.state.held
       → MakesCalls (length cells) old.state turn (drive old.disk) (drive old.disk) → MakesTurn drive cells turn old new
   quiet turn new is same calls = subst (MakesTurn drive cells turn old) (sym is) (record {
@@ -97,16 +97,16 @@ module _ {D : Type 0} (drive : D → Drive) (cells : List Cell) (old : FollowerV
     any_moment = subst (λ (n : ℕ). LeavesFirst old.width cells old.state.held n (drive old.disk) (drive old.disk)) (sym same) stands;
   })
 
-  -- a turn for which memory ran out
+  -- A turn for which memory ran out.
   pub no_room : (turn : Turn) (disk : D) (fault : FollowFault) → disk ≡ old.disk → fault ≡ Memory → TakesRoom turn → FailsTurn drive cells turn old disk fault
   no_room turn disk fault same is room =
       subst (FailsTurn drive cells turn old disk) (sym is)
       (subst (λ (d : D). FailsTurn drive cells turn old d Memory) (sym same) (record {
-        refused = record { cause = (room, refl); may = λ why told. absurd (cc told); calm = λ quiet. refl; later = omega arith; calls = λ all told. told; log = λ quiet. holds.log; file = λ all told. told };
+        refused = record { cause = (room, refl); may = λ why told. absurd (cc told); told = refl; calm = λ quiet. refl; later = omega arith; calls = λ all told. told; log = λ quiet. holds.log; file = λ all told. told };
         any_moment = stands;
       }))
 
-  -- a packet that isn't the next one makes no call
+  -- A packet that isn't the next one makes no call.
   pub no_calls : (packet : ℕ) → held_after (length cells) (cell_of packet old.state) old.state.held ≡ old.state.held
       → MakesCalls (length cells) old.state (Arrive packet) (drive old.disk) (drive old.disk)
   no_calls packet same = (
@@ -115,7 +115,7 @@ module _ {D : Type 0} (drive : D → Drive) (cells : List Cell) (old : FollowerV
   )
 
   module _ (packet : ℕ) (cell : Cell) (next : IsNext cells packet old.state cell) where
-    -- with the next cell, or without
+    -- With the next cell, or without.
     either : (c : List ℕ) → HoldsEither old.width (take old.state.held cells) cell c → RecoversFirst old.width cells old.state.held (old.state.held + 1) c
     either c (inl alone) = first-held old.width cells holds.leading.legal old.state.held old.state.held (old.state.held + 1) (omega arith) (omega arith) c alone
     either c (inr more) =
@@ -159,6 +159,7 @@ module _ {D : Type 0} (drive : D → Drive) (cells : List Cell) (old : FollowerV
       refused = record {
         cause = ((next.brings, next.below), is.named, is.rose, λ bytes told c left. either c (is.now old.width (take old.state.held cells) (holds.log bytes told) c left));
         may = λ why told. absurd (cc told);
+        told = is.told;
         calm = λ quiet. absurd (true≢false quiet);
         later = is.later;
         calls = is.calls;
@@ -171,7 +172,7 @@ module _ {D : Type 0} (drive : D → Drive) (cells : List Cell) (old : FollowerV
     lost disk Disk is = absurd is
     lost disk Memory is = no_room (Arrive packet) disk Memory is refl tt
 
-  -- what stands there recovers to the cells that are held, and is no fault
+  -- The file recovers to the cells that are held, and shows no fault.
   held_few : length (take old.state.held cells) ≤ most_cells
   held_few = omega (arith, length-take-le old.state.held cells holds.few, holds.few, holds.leading.few)
 
@@ -180,7 +181,7 @@ module _ {D : Type 0} (drive : D → Drive) (cells : List Cell) (old : FollowerV
       recovers_no_fault newest old.width most_cells (lit≤ tt) bytes (take old.state.held cells) why (bytes-recover old.width cells holds.leading.legal old.state.held (drive old.disk) bytes (holds.log bytes told) told)
       (subst (IsWanted newest) (sym (log-version old.width (take old.state.held cells) (drive old.disk) bytes (holds.log bytes told) told)) newest_wanted) held_few shown (is bytes told)
 
-  -- nothing stands behind the cells
+  -- Nothing follows the cells.
   not_beyond : (bytes : List ℕ) → (drive old.disk).bytes ≡ Some bytes → 17 + 32 * old.state.held < length bytes → ⊥
   not_beyond bytes told beyond =
       let log = holds.log bytes told in
@@ -268,11 +269,11 @@ module _ {D : Type 0} (drive : D → Drive) (cells : List Cell) (old : FollowerV
 
   not_again : (disk : D) (fault : FollowFault) → RefusesReopen old.width old.state.held (drive old.disk) (drive disk) fault → FailsTurn drive cells Restart old disk fault
   not_again disk fault is = record {
-    refused = record { cause = restart_cause disk fault is; may = is.may; calm = is.calm; later = is.later; calls = restart_calls disk fault is; log = restart_log disk fault is; file = is.file };
+    refused = record { cause = restart_cause disk fault is; may = is.may; told = is.told; calm = is.calm; later = is.later; calls = restart_calls disk fault is; log = restart_log disk fault is; file = is.file };
     any_moment = kept (drive disk) is.any_moment is.newest (most_left fault old.state.held) (held-left fault old.state.held);
   }
 
-  -- as the call of `reopen` finds its drive, width and count
+  -- The drive, width and count of the call of `reopen`.
   module _ (log : LogView D) (w known count : ℕ) (packets acks : List ℕ) (d : D)
       (before : ◌≡◌ {A = FollowerView D} (record { disk = log.disk; width = w; state = record { held = log.cells; known = known; packets = packets; acks = acks } }) old)
       (same_disk : d ≡ log.disk) (same_count : count ≡ log.cells) where
@@ -290,7 +291,7 @@ module _ {D : Type 0} (drive : D → Drive) (cells : List Cell) (old : FollowerV
     pub not_restarted : (disk : D) (fault : FollowFault) → RefusesReopen w count (drive d) (drive disk) fault → FailsTurn drive cells Restart old disk fault
     not_restarted disk fault is = not_again disk fault (found (λ v n e. RefusesReopen v n e (drive disk) fault) is)
 
-  -- where the bytes are known, a turn is refused for memory or for the drive alone
+  -- If the bytes are known, a turn is refused only because of memory or of the drive.
   pub free : (turn : Turn) (disk : D) (fault : FollowFault) (bytes : List ℕ) → (drive old.disk).bytes ≡ Some bytes → IsTurnCause drive cells turn old disk fault
       → IsFree (drive old.disk) (drive disk) fault
   free turn disk (Strange number) bytes told is = absurd (is.1 bytes told)

@@ -1,4 +1,4 @@
--- Turns that were read one behind the other.
+-- Turns that were read one after the other.
 use Rattle.std.proofs.Common.{◌≡◌, ◌≤◌, ◌<◌, ◌+◌, ℕ, Bool, true, false, cond, List, [], ◌∷◌, ◌++◌, length, Some, Ok, Err, refl, sym, subst, arith, length-append}
 use Rattle.std.specs.List.{fold}
 use Rattle.std.specs.Prelude.{codes}
@@ -15,7 +15,7 @@ use Rattle.follower.specs.declared.turns.Turn.TheVariants.{Send, Arrive, Ack, Re
 use Rattle.follower.specs.Follow.{AllNameSent, AreTurns, NamesSent, acks_after, packets_after}
 use Rattle.follower.specs.TurnRows.{acks_of, numbered, packets_of, turn_by, turn_in, turn_of, turn_table, turns_of_text}
 
--- the fields that stand at two places are all of two
+-- A record of two fields has only the fields at these two places.
 pub two_fields : (fields : List (List ℕ)) (a b : List ℕ) → length fields ≡ 2 → field_at fields 0 ≡ Some a → field_at fields 1 ≡ Some b → fields ≡ a ∷ b ∷ []
 unfolding field_at
 two_fields (z0 ∷ z1 ∷ []) a b n h0 h1 = cc
@@ -23,7 +23,7 @@ two_fields [] a b n h0 h1 = cc h0
 two_fields (z0 ∷ []) a b n h0 h1 = cc h1
 two_fields (z0 ∷ z1 ∷ z2 ∷ fields) a b n h0 h1 = absurd (omega arith)
 
--- what one turn more sends
+-- What one more turn sends.
 packets-from : (n : ℕ) (turns : List Turn) (t : Turn) → fold packets_after n (turns ++ t ∷ []) ≡ packets_after (fold packets_after n turns) t
 packets-from n [] t = refl
 packets-from n (u ∷ turns) t = packets-from (packets_after n u) turns t
@@ -38,7 +38,7 @@ packets-more turns t = packets-from 0 turns t
 pub acks-more : (turns : List Turn) (t : Turn) → acks_of (turns ++ t ∷ []) ≡ acks_after (acks_of turns) t
 acks-more turns t = acks-from 0 turns t
 
--- each turn sends one at most
+-- Each turn sends at most one.
 packets-step : (n : ℕ) (t : Turn) → packets_after n t ≤ n + 1
 packets-step n (Send cell) = omega arith
 packets-step n (Arrive packet) = omega arith
@@ -65,7 +65,7 @@ few-packets turns sent is few = omega (arith, is, few, packets-few 0 turns)
 pub few-acks : (turns : List Turn) (sent : ℕ) → sent ≡ acks_of turns → length turns < 65536 → sent < 65536
 few-acks turns sent is few = omega (arith, is, few, acks-few 0 turns)
 
--- a turn that was numbered by a rule
+-- A turn whose number keeps a rule.
 numbered-ok : (rule : Rule) (field : List ℕ) (turn : ℕ → Turn) (t : Turn) → numbered rule field turn ≡ Ok t → (keeps rule field ≡ true) × (t ≡ turn (number field))
 numbered-ok rule field turn t e = by_test (keeps rule field) e
   where
@@ -73,7 +73,7 @@ numbered-ok rule field turn t e = by_test (keeps rule field) e
     by_test true is = let same : turn (number field) ≡ t = cc is in (refl, sym same)
     by_test false is = cc is
 
--- what a word and a number say names what was sent
+-- The turn of a word and a number names only what was sent.
 names-by : (packets acks : ℕ) (word field : List ℕ) (t : Turn) → turn_by packets acks word field ≡ Ok t → NamesSent packets acks t
 names-by packets acks word field t e = by_send (is_text word (codes "send")) e
   where
@@ -110,13 +110,13 @@ all-name-more : (packets acks : ℕ) (turns : List Turn) (t : Turn) → AllNameS
 all-name-more packets acks [] t all last = (last, tt)
 all-name-more packets acks (u ∷ turns) t all last = (all.0, all-name-more (packets_after packets u) (acks_after acks u) turns t all.1 last)
 
--- one turn more
+-- One more turn.
 turns-more : (turns : List Turn) (fields : List (List ℕ)) (t : Turn) → length turns < 65536 → turn_of turns fields ≡ Ok t → AreTurns turns → AreTurns (turns ++ t ∷ [])
 turns-more turns fields t few is good = record {
   each = all-name-more 0 0 turns t good.each (names-sent (packets_of turns) (acks_of turns) fields t is);
   most = omega (arith, few, length-append turns (t ∷ []));
 }
 
--- the turns of a text name what was sent
+-- The turns of a text name only what was sent.
 pub read-turns : (bytes : List ℕ) (turns : List Turn) → turns_of_text bytes ≡ Ok turns → AreTurns turns
 read-turns bytes turns is = table-keeps turn_table AreTurns turns-more bytes turns (record { each = tt; most = omega arith }) is

@@ -1,4 +1,4 @@
--- The adding of a cell.
+-- How a cell is added.
 use Rattle.std.specs.Prelude.{◌≡◌, ℕ, ◌+◌, ◌≤◌, ◌<◌, List, [], ◌∷◌, ◌++◌, length, take, is_some}
 use Rattle.causes.specs.Causes.{Rose}
 use Rattle.cell_format.specs.declared.cell.Cell.{Cell}
@@ -10,17 +10,17 @@ use Rattle.follower.specs.declared.faults.FollowFault.TheVariants.{Append, Memor
 use Rattle.follower.specs.Follow.{Following, acknowledging, cell_of}
 use Rattle.follower.specs.Holding.{FollowerView}
 
--- the packet brings the next cell, and this is it
+-- The packet carries the next cell, and this is it.
 pub record IsNext (cells : List Cell) (packet : ℕ) (s : Following) (cell : Cell) : Type 0 where
   pub brings : cell_of packet s ≡ s.held
   pub below : s.held < length cells
   pub more : take (s.held + 1) cells ≡ take s.held cells ++ cell ∷ []
 
--- at each moment a crash leaves the cells of the log, with this one or without
+-- At each moment a crash leaves the cells of the log, with this one or without.
 abbrev pub LeavesEither : Cell → Drive → Drive → Type 0
 LeavesEither cell old new = (w : ℕ) (cells : List Cell) → IsLog w cells old → LeavesOnly old new (HoldsEither w cells cell)
 
--- the cell was added and acknowledged, and no device call failed
+-- The cell was added and acknowledged, and no device call failed.
 pub record IsAdded {D : Type 0} (drive : D → Drive) (cell : Cell) (old new : FollowerView D) : Type 0 where
   pub state : new.state ≡ acknowledging (old.state.held + 1) old.state
   pub width : new.width ≡ old.width
@@ -31,17 +31,18 @@ pub record IsAdded {D : Type 0} (drive : D → Drive) (cell : Cell) (old new : F
   pub file : SameFile (drive old.disk) (drive new.disk)
   pub any_moment : LeavesEither cell (drive old.disk) (drive new.disk)
 
--- a device call failed while the cell of this number was added, and none was made behind it
+-- A device call failed while the cell of this number was added. No call follows it.
 pub record FailsToAdd (cell : Cell) (number held : ℕ) (old new : Drive) : Type 0 where
   pub named : number ≡ held
   pub rose : Rose old.faults new.faults
+  pub told : is_some new.bytes ≡ is_some old.bytes
   pub later : old.faults ≤ new.faults
   pub calls : (went_well : ℕ) × StopsAfter 3 went_well old new
   pub file : SameFile old new
   pub now : (w : ℕ) (cells : List Cell) → IsLog w cells old → LeavesNow new (HoldsEither w cells cell)
   pub any_moment : LeavesEither cell old new
 
--- why a cell wasn't added: memory ran out before a device call, or one failed
+-- Why a cell wasn't added: memory ran out before any device call, or a device call failed.
 abbrev pub IsLost : {D : Type 0} → (D → Drive) → Cell → FollowerView D → D → FollowFault → Type 0
 IsLost drive cell old disk (Append number) = FailsToAdd cell number old.state.held (drive old.disk) (drive disk)
 IsLost drive cell old disk Memory = disk ≡ old.disk

@@ -1,4 +1,4 @@
--- What a walk over a log tells of its cells, beside those of the leader.
+-- What a walk over a log says about its cells, compared with those of the leader.
 use Rattle.std.specs.Prelude.{◌≡◌, ◌≢◌, ◌⊎◌, ℕ, ◌+◌, ◌≤◌, ◌<◌, List, length, take, Some, Result, Ok, Err}
 use Rattle.causes.specs.Causes.{Rose}
 use Rattle.cell_format.specs.declared.cell.Cell.{Cell}
@@ -13,13 +13,13 @@ use Rattle.recovery.specs.Wanted.{MayTell}
 use Rattle.follower.specs.declared.comparing.Tally.{Tally}
 use Rattle.follower.specs.Opening.{IsOpenable, most_held}
 
--- the drive was only read, and no call failed
+-- The drive was only read, and no call failed.
 pub record IsOnlyRead (old new : Drive) : Type 0 where
   pub stays : Stays old new
   pub calm : new.faults ≡ old.faults
   pub file : SameFile old new
 
--- so many cells, of which so many first ones are the leader's, and no more
+-- The number of cells, and how many of the first ones are the leader's.
 pub record IsTally (cells own : List Cell) (tally : Tally) : Type 0 where
   pub count_is : length own ≡ tally.count
   pub few : tally.same ≤ tally.count
@@ -27,35 +27,35 @@ pub record IsTally (cells own : List Cell) (tally : Tally) : Type 0 where
   pub same_is : take tally.same own ≡ take tally.same cells
   pub other : tally.same < tally.count → take (tally.same + 1) own ≢ take (tally.same + 1) cells
 
--- a walk came behind these cells of a log, which was only read
+-- A walk has come past these cells of a log. The log was only read.
 pub record IsCounting {D : Type 0} (w : ℕ) (cells : List Cell) (old new : Drive) (walk : WalkView D) (tally : Tally) : Type 0 where
   pub own : List Cell
   pub came : ComesTo w most_held own new walk
   pub tally_is : IsTally cells own tally
   pub reads : IsOnlyRead old new
 
--- and they are all
+-- These are all cells of the log.
 pub record Counts {D : Type 0} (w : ℕ) (cells : List Cell) (old new : Drive) (walk : WalkView D) (tally : Tally) : Type 0 where
   pub own : List Cell
   pub came : ComesTo w most_held own new walk
   pub tally_is : IsTally cells own tally
   pub whole : (bytes : List ℕ) → old.bytes ≡ Some bytes → Recovers w own bytes
 
--- or this is at fault behind them, for whoever reads versions 1 and 2
+-- Or the log has this fault after them, for a reader of versions 1 and 2.
 pub record StopsCounting {D : Type 0} (w : ℕ) (old new : Drive) (walk : WalkView D) (fault : OpenFault) : Type 0 where
   pub own : List Cell
   pub came : ComesTo w most_held own new walk
   pub cause : (bytes : List ℕ) → old.bytes ≡ Some bytes → IsFault 1 (Some w) most_held bytes fault
   pub may : MayTell newest (Some w) most_held fault
 
--- what is told of a log of this version, which is opened in the newest one alone: a drive that failed comes first
+-- The result for a log of this version. Only the newest version is opened. A failure of the drive comes first.
 abbrev pub IsJudged : ℕ → ℕ → Result Tally OpenFault → Result Tally OpenFault → Type 0
 IsJudged version w counted (Ok tally) = (version ≡ newest) × (counted ≡ Ok tally)
 IsJudged version w counted (Err fault) =
     ((counted ≡ Err fault) × ((version ≡ newest) ⊎ (fault ≡ open_fault.Disk)))
     ⊎ ((fault ≡ open_fault.OldLog version w) × (version < newest) × (counted ≢ Err open_fault.Disk))
 
--- a log that may be opened, with so many cells, of which so many first ones are the leader's, and no more
+-- A log that may be opened. It has `count` cells, and exactly `same` of its first ones are the leader's.
 pub record IsCompared (w : ℕ) (cells : List Cell) (bytes : List ℕ) (count same : ℕ) : Type 0 where
   pub own : List Cell
   pub openable : IsOpenable w own bytes
@@ -63,14 +63,14 @@ pub record IsCompared (w : ℕ) (cells : List Cell) (bytes : List ℕ) (count sa
   pub same_is : take same own ≡ take same cells
   pub other : same < count → take (same + 1) own ≢ take (same + 1) cells
 
--- a log was walked to its end
+-- A log was walked to its end.
 pub record Compares (w : ℕ) (cells : List Cell) (old new : Drive) (count same : ℕ) : Type 0 where
   pub few : same ≤ count
   pub within : same ≤ length cells
   pub found : (bytes : List ℕ) → old.bytes ≡ Some bytes → IsCompared w cells bytes count same
   pub reads : IsOnlyRead old new
 
--- it wasn't: no log that may be opened stands there, the drive failed, or memory ran out
+-- A log wasn't walked to its end. It may not be opened, the drive failed, or memory ran out.
 pub record RefusesCompare (w : ℕ) (old new : Drive) (fault : OpenFault) : Type 0 where
   pub cause : (bytes : List ℕ) → old.bytes ≡ Some bytes → IsFault newest (Some w) most_held bytes fault
   pub may : MayTell newest (Some w) most_held fault

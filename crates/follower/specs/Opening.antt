@@ -20,17 +20,17 @@ use Rattle.follower.specs.Holding.{FollowerView, HoldsFirst, IsUntold}
 use Rattle.follower.specs.Faults.{is_drives}
 use Rattle.follower.specs.Reopening.{CallsUnopened}
 
--- how many cells a log may have that a follower opens: as many as any log
+-- The most cells of a log that a follower opens: as many as any log may have.
 abbrev pub most_held : ℕ
 most_held = most_cells
 
--- a log that may be opened: the bytes recover to these cells, which are few enough, in the newest version
+-- A log that may be opened. The bytes recover to these cells, which are few enough, in the newest version.
 pub record IsOpenable (w : ℕ) (own : List Cell) (bytes : List ℕ) : Type 0 where
   pub recovers : Recovers w own bytes
   pub version : slice_index bytes 8 ≡ newest
   pub few : length own ≤ most_held
 
--- a log that may be opened, and the number of its first cell that isn't the leader's of that number
+-- A log that may be opened, and the number of its first cell that isn't the leader's cell of that number.
 pub record IsStrange (w : ℕ) (cells : List Cell) (bytes : List ℕ) (number : ℕ) : Type 0 where
   pub own : List Cell
   pub openable : IsOpenable w own bytes
@@ -38,22 +38,24 @@ pub record IsStrange (w : ℕ) (cells : List Cell) (bytes : List ℕ) (number : 
   pub same : take number own ≡ take number cells
   pub other : take (number + 1) own ≢ take (number + 1) cells
 
--- bytes that a follower takes: small ones, of which it makes a log, or a log that may be opened and has the first of the cells, so many
+-- Bytes that a follower accepts. They are small, and it creates a log. Or they are a log that may be opened, and has
+-- the first `held` cells.
 abbrev pub IsTaken : ℕ → List Cell → List ℕ → ℕ → Type 0
 IsTaken w cells bytes held = (IsSmall bytes × (held ≡ 0)) ⊎ ((17 < length bytes) × (held ≤ length cells) × IsOpenable w (take held cells) bytes)
 
--- where the bytes are known, they are small, or more than that
+-- If the bytes are known, they are at most 17. `IsLong` says that they are more.
 abbrev pub IsShort : Drive → Type 0
 IsShort drive = (bytes : List ℕ) → drive.bytes ≡ Some bytes → IsSmall bytes
 
 abbrev pub IsLong : Drive → Type 0
 IsLong drive = (bytes : List ℕ) → drive.bytes ≡ Some bytes → 17 < length bytes
 
--- which calls open a follower that holds so many cells then: a write and a sync that make a log, and over a longer file those that open a log
+-- The calls that open a follower with `held` cells. A write and a sync create a log. Over a longer file they are the
+-- calls that open a log.
 abbrev pub CallsToFollow : ℕ → Drive → Drive → Type 0
 CallsToFollow held old new = (IsShort old × (held ≡ 0) × MadeWell 2 old new) ⊎ (IsLong old × CallsToOpen held old new)
 
--- a follower was opened over a drive: it holds what it found there, or nothing where it made the log
+-- A follower was opened over a drive. It holds what it found there, or nothing if it created the log.
 pub record Opens {D : Type 0} (drive : D → Drive) (w : ℕ) (cells : List Cell) (old : Drive) (new : FollowerView D) : Type 0 where
   pub state : new.state ≡ opened_with new.state.held
   pub width : new.width ≡ w
@@ -64,7 +66,8 @@ pub record Opens {D : Type 0} (drive : D → Drive) (w : ℕ) (cells : List Cell
   pub calls : CallsToFollow new.state.held old (drive new.disk)
   pub file : SameFile old (drive new.disk)
 
--- Why no follower was opened. The drive that failed before the length was known, or while a log was made, isn't one that failed at a log.
+-- Why no follower was opened. `Disk` means that the drive failed before the length was known, or while a log was
+-- created. A drive that failed at a log gives `Log`.
 abbrev pub IsOpenCause : ℕ → List Cell → Drive → Drive → FollowFault → Type 0
 IsOpenCause w cells old new (Strange number) =
     (number ≤ length cells) × ((bytes : List ℕ) → old.bytes ≡ Some bytes → IsStrange w cells bytes number)
@@ -73,8 +76,8 @@ IsOpenCause w cells old new (Append cell) = ⊥
 IsOpenCause w cells old new Disk = (bytes : List ℕ) → old.bytes ≡ Some bytes → 17 < length bytes → HasNoMore old.calls new.calls
 IsOpenCause w cells old new Memory = ⊥
 
--- Which calls such an opening made: none over a log that was only walked, those of the opening of a log that was refused, and those of making one
--- up to the one that failed. Where the bytes are known, a log of other cells is only walked.
+-- The calls of such an opening: none over a log that was only walked, those of an opening that was refused, or those of
+-- creating a log, up to the one that failed. If the bytes are known, a log of other cells is only walked.
 abbrev pub CallsNotToFollow : FollowFault → Drive → Drive → Type 0
 CallsNotToFollow (Strange number) old new = HasNoMore old.calls new.calls ⊎ (IsUntold old × CallsUnopened (Strange number) old new)
 CallsNotToFollow (Log fault) old new = HasNoMore old.calls new.calls ⊎ CallsUnopened (Log fault) old new
@@ -82,12 +85,13 @@ CallsNotToFollow (Append cell) old new = ⊥
 CallsNotToFollow Disk old new = HasNoMore old.calls new.calls ⊎ ((went_well : ℕ) × StopsAfter 1 went_well old new)
 CallsNotToFollow Memory old new = ⊥
 
--- No follower was opened: why, and where the drive didn't fail, its count of faults stays, and what stood there where its bytes are known. No call was
--- made behind one that failed.
+-- No follower was opened, and this is why. If the drive didn't fail, its fault count is unchanged, and so is its file
+-- if its bytes are known. No call follows one that failed.
 pub record RefusesOpen (w : ℕ) (cells : List Cell) (old new : Drive) (fault : FollowFault) : Type 0 where
   pub cause : IsOpenCause w cells old new fault
-  -- whether the bytes are known or not
+  -- Whether the bytes are known or not.
   pub may : (why : OpenFault) → fault ≡ Log why → MayTell newest (Some w) most_held why
+  pub told : is_some new.bytes ≡ is_some old.bytes
   pub rose : is_drives fault ≡ true → Rose old.faults new.faults
   pub calm : is_drives fault ≡ false → new.faults ≡ old.faults
   pub untouched : is_drives fault ≡ false → (bytes : List ℕ) → old.bytes ≡ Some bytes → IsUntouched old new
@@ -95,8 +99,9 @@ pub record RefusesOpen (w : ℕ) (cells : List Cell) (old new : Drive) (fault : 
   pub calls : CallsNotToFollow fault old new
   pub file : SameFile old new
 
--- What a crash leaves at each moment of an opening, where the bytes are known, whatever the answer is: a small file where a crash left one before,
--- the cells and the version that it left before where the file is longer, and what stood there where a follower doesn't take it.
+-- What a crash leaves at each moment of an opening, if the bytes are known, whatever the result is. It leaves a small
+-- file if it left one before. If the file is longer, it leaves the cells and the version that it left before. A file
+-- that a follower doesn't accept stays unchanged.
 pub record KeepsTarget (w : ℕ) (cells : List Cell) (old new : Drive) : Type 0 where
   pub small : (bytes : List ℕ) → old.bytes ≡ Some bytes → LeavesNow old IsSmall → LeavesOnly old new IsSmall
   pub log : (bytes : List ℕ) (own : List Cell) → old.bytes ≡ Some bytes → 17 < length bytes → LeavesNow old (Recovers w own)
@@ -104,7 +109,7 @@ pub record KeepsTarget (w : ℕ) (cells : List Cell) (old new : Drive) : Type 0 
   pub newest : (bytes : List ℕ) → old.bytes ≡ Some bytes → 17 < length bytes → KeepsNewest old new
   pub other : (bytes : List ℕ) → old.bytes ≡ Some bytes → ((held : ℕ) → IsTaken w cells bytes held → ⊥) → IsUntouched old new
 
--- the log of a follower was opened, or made: its first cells are the leader's, and no device call failed
+-- The log of a follower was opened or created. Its cells are the leader's first ones, and no device call failed.
 pub record OpensLog {D : Type 0} (drive : D → Drive) (w : ℕ) (cells : List Cell) (old : Drive) (log : LogView D) : Type 0 where
   pub sound : log.failed ≡ None
   pub few : log.cells ≤ length cells

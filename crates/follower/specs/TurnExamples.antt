@@ -16,7 +16,7 @@ four_turns : turns_of_text (header ++ codes "send,0\narrive,1\nrestart,\nack,01\
 unfolding rows_of_text records_from next_record is_between is_number
 four_turns = refl
 
--- an acknowledgement before any was sent, the packet 0, and a restart with a number
+-- An acknowledgement before any was sent, the packet 0, and a restart with a number.
 early : turns_of_text (header ++ codes "ack,1\n") ≡ Err (fault.Field 1 2)
 unfolding rows_of_text records_from next_record is_between is_number
 early = refl

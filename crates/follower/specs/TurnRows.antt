@@ -13,18 +13,18 @@ use Rattle.follower.specs.declared.turns.Turn.{Turn}
 use Rattle.follower.specs.declared.turns.Turn.TheVariants.{Send, Arrive, Ack, Restart}
 use Rattle.follower.specs.Follow.{packets_after, acks_after}
 
--- how many packets, and acknowledgements, these turns send
+-- How many packets, and acknowledgements, these turns send.
 abbrev pub packets_of : List Turn → ℕ
 packets_of turns = fold packets_after 0 turns
 
 abbrev pub acks_of : List Turn → ℕ
 acks_of turns = fold acks_after 0 turns
 
--- a turn whose number keeps this rule
+-- A turn whose number keeps this rule.
 abbrev pub numbered : Rule → List ℕ → (ℕ → Turn) → Result Turn Wrong
 numbered rule field turn = if keeps rule field then Ok (turn (number field)) else Err (Column 2)
 
--- the turn of a word and a number, where so many packets and acknowledgements were sent, or the leftmost column at fault
+-- The turn of a word and a number, after so many packets and acknowledgements. Or the leftmost faulty column.
 abbrev pub turn_by : (packets acks : ℕ) → (word field : List ℕ) → Result Turn Wrong
 turn_by packets acks word field =
     if is_text word (codes "send") then numbered id_rule field Send
@@ -33,19 +33,20 @@ turn_by packets acks word field =
     else if is_text word (codes "restart") then numbered Empty field (λ n. Restart)
     else Err (Column 1)
 
--- the turn of a record's fields, where so many packets and acknowledgements were sent, or what is wrong with it: its length, or a column
+-- The turn of a record's fields, after so many packets and acknowledgements. Or what is wrong with it: its length, or a
+-- column.
 abbrev pub turn_in : (packets acks : ℕ) → List (List ℕ) → Result Turn Wrong
 turn_in packets acks (word ∷ field ∷ []) = turn_by packets acks word field
 turn_in packets acks fields = Err Length
 
--- the turn of a record's fields behind these turns
+-- The turn of a record's fields after these turns.
 abbrev pub turn_of : List Turn → List (List ℕ) → Result Turn Wrong
 turn_of earlier fields = turn_in (packets_of earlier) (acks_of earlier) fields
 
--- how turns are read
+-- How turns are read.
 abbrev pub turn_table : Table Turn
 turn_table = record { header = codes "turn" ∷ codes "number" ∷ []; most = 65536; row_of = turn_of }
 
--- the turns of a text, or the first record at fault
+-- The turns of a text, or the first faulty record.
 abbrev pub turns_of_text : List ℕ → Result (List Turn) RowsFault
 turns_of_text bytes = rows_of_text turn_table bytes

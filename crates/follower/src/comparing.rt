@@ -22,7 +22,7 @@ pub(crate) struct Compared<D: LogDisk> {
     pub(crate) same: u64,
 }
 
-/// Reads the whole log, also behind a cell that isn't the leader's, since what is at fault in the log comes first.
+/// Reads the whole log, also after a cell that isn't the leader's, because a fault in the log comes first.
 pub(crate) fn compare<D: LogDisk>(
     alloc: Global,
     disk: D,
@@ -51,7 +51,7 @@ pub(crate) fn compare<D: LogDisk>(
     }
 }
 
-/// Goes over all cells of a log.
+/// Walks over all cells of a log.
 fn count_same<D: LogDisk>(walk: &mut Walk<D>, cells: &[Cell]) -> Result<Tally, OpenFault>
     requires { ComesTo walk.old.reading.replay.width most_held [] (D.drive walk.old.disk) walk.old }
 
@@ -67,7 +67,7 @@ fn count_same<D: LogDisk>(walk: &mut Walk<D>, cells: &[Cell]) -> Result<Tally, O
     Ok(tally)
 }
 
-/// What was told of a log, where this is its version: one of an older version isn't opened, whatever its cells are.
+/// The result for a log of this version. A log of an older version isn't opened, whatever its cells are.
 fn judged(counted: Result<Tally, OpenFault>, version: u8, width: u8) -> Result<Tally, OpenFault>
     requires { IsWanted 1 version }
 
@@ -88,7 +88,7 @@ struct Tally {
 }
 
 impl Tally {
-    // With one cell more.
+    // The tally with one more cell.
     fn with(self, cells: &[Cell], cell: &Cell) -> Tally
         requires { self.count < most_held }
 
@@ -104,7 +104,7 @@ impl Tally {
     }
 }
 
-// Whether this is the leader's cell of a number.
+// Whether the leader's cell of this number is this one.
 fn is_at(cells: &[Cell], number: u64, cell: &Cell) -> bool
     ensures { IsTrue result ↔ ((number < length cells.now) × (slice_index_or cells.now number cell.now ≡ cell.now)) }
 {

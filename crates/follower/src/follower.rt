@@ -40,7 +40,7 @@ impl<D: LogDisk> Model for Follower<D> {
       state = record { held = f.log.cells; known = f.known; packets = f.packets.items; acks = f.acks.items };
     } };
 
-    // An append that failed leaves no follower.
+    // After an append that failed there is no follower.
     ghost invariant = { λ f. f.log.failed ≡ None };
 }
 
@@ -52,8 +52,8 @@ pub struct Turned<D: LogDisk> {
 }
 
 impl<D: LogDisk> Follower<D> {
-    /// Makes a turn. The cells are the leader's: those of the call before, or where its log has grown, more behind them (`goes_on`). After a
-    /// refusal there is no follower any more, and the drive may be opened again.
+    /// Makes a turn. `cells` are the leader's: those of the call before, or more after them if its log has grown
+    /// (`goes_on`). A refusal consumes the follower and returns the drive, which may be opened again.
     pub fn turn(self, cells: &[Cell], turn: &Turn) -> Result<Turned<D>, FollowRefused<D>>
         requires holds { HoldsFirst D.drive cells.now self }
         requires sent { NamesSent (length self.state.packets) (length self.state.acks) turn.now }
@@ -77,7 +77,7 @@ impl<D: LogDisk> Follower<D> {
         }
     }
 
-    /// How many cells are held, and how many are known to be.
+    /// How many cells are held, and how many of them the leader knows to be held.
     pub fn report(&self) -> Report
         ensures { result ≡ report_of self.now.state }
     {
@@ -87,21 +87,21 @@ impl<D: LogDisk> Follower<D> {
         }
     }
 
-    /// How many packets were sent. A turn may name each of them, from 1 on.
+    /// The number of packets that were sent. A turn may name each of them, from 1 on.
     pub fn packets(&self) -> usize
         ensures { result ≡ length self.now.state.packets }
     {
         self.packets.len()
     }
 
-    /// How many acknowledgements were sent. A turn may name each of them, from 1 on.
+    /// The number of acknowledgements that were sent. A turn may name each of them, from 1 on.
     pub fn acks(&self) -> usize
         ensures { result ≡ length self.now.state.acks }
     {
         self.acks.len()
     }
 
-    /// The drive, whatever stands on it.
+    /// Returns the drive, whatever its file holds.
     pub fn give_back(self) -> D
         ensures { result ≡ self.disk }
     {

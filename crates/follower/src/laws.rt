@@ -1,4 +1,4 @@
-//! What a longer list of the leader's cells changes: nothing of what holds beside the shorter one.
+//! A longer list of the leader's cells changes nothing that holds for the shorter one.
 ghost use Rattle.std.specs.Prelude.{◌≡◌, ◌≤◌, ◌++◌, ℕ, List, length};
 ghost use Rattle.cell_format.specs.declared.cell.Cell.{Cell};
 ghost use Rattle.follower.specs.Holding.{AreLeading, HoldsFirst, LeavesFirst};
@@ -8,8 +8,8 @@ use cell_format::Cell;
 use disk_trait::LogDisk;
 
 impl<D: LogDisk> Follower<D> {
-    /// Goes on beside a leader whose log has grown: what holds of the first of its cells holds of all of them. It does nothing, and the next
-    /// turn may be handed all of them.
+    /// Proves that what holds for the first of a leader's cells holds for all of them. Call it when the leader's log
+    /// has grown. It does nothing at run time, and the next turn may then get all cells.
     pub fn goes_on(&self, cells: &[Cell])
         requires leading { AreLeading self.now.width cells.now }
 

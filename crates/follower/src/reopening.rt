@@ -1,4 +1,4 @@
-//! Opens a log of which it's known how many cells it has.
+//! Opens a log whose number of cells is known.
 ghost use Rattle.std.specs.Prelude.{◌≡◌, ◌⊎◌, IfOk, IfErr};
 ghost use Rattle.zorder.specs.Width.{IsWidth};
 ghost use Rattle.follower.specs.Reopening.{Reopens, RefusesReopen};
@@ -9,7 +9,7 @@ use recovery::open;
 use split_log::{MOST_CELLS, SplitLog};
 use std::alloc::Global;
 
-/// Opens a log that has so many cells. A drive whose content isn't known may tell another number than before.
+/// Opens a log that has `count` cells. A drive whose content is unknown may report another number than before.
 pub(crate) fn reopen<D: LogDisk>(
     alloc: Global,
     disk: D,

@@ -14,7 +14,7 @@ const MOST_TURNS: u32 = 65_536;
 
 /// The turns of a text: the header `turn,number`, and then at most 65,536 rows of two fields.
 ///
-/// One byte order mark may stand in front. Empty lines are no records, and numbers may have leading zeros.
+/// The text may begin with one byte order mark. Empty lines are no records, and numbers may have leading zeros.
 pub fn read_turns(alloc: Global, bytes: &[u8]) -> Result<Turns, RowsFault>
     ensures rows { IfOk result (λ turns. turns_of_text bytes.now ≡ Ok turns) }
     ensures fault { IfErr result (λ e. e ≢ RowsFault.Memory → turns_of_text bytes.now ≡ Err e) }
@@ -59,7 +59,7 @@ impl ReadsRow for Sent {
     }
 }
 
-// What is sent after a turn.
+// What was sent after a turn.
 fn sent_after(sent: Sent, turn: Turn) -> Sent
     requires packets { sent.packets < 65536 }
     requires acks { sent.acks < 65536 }
@@ -107,7 +107,7 @@ fn is_header(fields: &ByteRecord) -> bool
     is_text(fields.word, "turn") && is_text(fields.number, "number")
 }
 
-// The turn of a record behind so many packets and acknowledgements, or what is wrong with it.
+// The turn of a record after these packets and acknowledgements, or what is wrong with it.
 fn turn_in(sent: Sent, fields: &ByteRecord) -> Result<Turn, Wrong>
     ensures { result ≡ turn_in sent.packets sent.acks (fields_of fields.now) }
 {
@@ -117,7 +117,7 @@ fn turn_in(sent: Sent, fields: &ByteRecord) -> Result<Turn, Wrong>
     turn_by(sent, &fields)
 }
 
-// The turn of a word and a number, or the leftmost of them at fault.
+// The turn of a word and a number, or the leftmost faulty column.
 fn turn_by(sent: Sent, fields: &Fields<'_>) -> Result<Turn, Wrong>
     ensures { result ≡ turn_by sent.packets sent.acks fields.now.word.now fields.now.number.now }
 {
@@ -144,7 +144,7 @@ fn turn_by(sent: Sent, fields: &Fields<'_>) -> Result<Turn, Wrong>
     Err(Wrong::Column(1))
 }
 
-// One of so many, counted from 1.
+// One of `count`, counted from 1.
 fn one_of(count: u32) -> Rule
     ensures { result ≡ Rule.Between 1 count }
 {

@@ -1,9 +1,9 @@
-//! Turns of a schedule, and what a follower reports.
+//! The turns of a schedule, and what a follower reports.
 ghost use Rattle.std.specs.Prelude.{◌≡◌};
 
 use std::marker::Model;
 
-/// A step of a schedule. Packets and acknowledgements are numbered from 1, in the order in which they were sent.
+/// A step of a schedule. Packets and acknowledgements have numbers from 1 on, in the order in which they were sent.
 #[derive(Clone, Copy, Debug, PartialEq, Eq)]
 pub enum Turn {
     /// The leader sends the cell of this number.
@@ -16,7 +16,7 @@ pub enum Turn {
     Restart,
 }
 
-/// Turns, at most 65,536, each of which names what was sent before it.
+/// At most 65,536 turns. Each names only what was sent before it.
 #[derive(Drop)]
 pub struct Turns {
     items: Vec<Turn>,

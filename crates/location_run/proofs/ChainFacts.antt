@@ -8,6 +8,7 @@ use Rattle.cell_format.specs.Spelling.{newest}
 use Rattle.plain_list.specs.declared.entries.Entry.{Entry}
 use Rattle.disk_trait.specs.Drive.{Drive, KeepsLaws, Stays, IsSynced}
 use Rattle.disk_trait.specs.Moments.{LeavesNow}
+use Rattle.disk_trait.proofs.Told.{told_before}
 use Rattle.io_edge.specs.Streams.{Output}
 use Rattle.log_state.specs.Recovers.{IsLegalCells, Recovers, state_of}
 use Rattle.log_state.specs.Changes.{cells_of}
@@ -75,13 +76,13 @@ same-still a b laws same =
 
 -- a run without a history
 goes-still : (a b : Drive) (status : ℕ) (h : List Entry) (w : ℕ) (cells : List Cell) → KeepsLaws b → a.clock ≤ b.clock → h ≡ []
-    → ((image : List ℕ) → b.since a.clock image → IsStanding w cells image) → (status ≢ 7 → HoldsLog w cells b) → GoesOn w cells a b status h
-goes-still a b status h w cells laws later none moments stands =
+    → ((image : List ℕ) → b.since a.clock image → IsStanding w cells image) → (status ≢ 7 → HoldsLog w cells b) → (xs : List ℕ) → b.bytes ≡ Some xs → GoesOn w cells a b status h
+goes-still a b status h w cells laws later none moments stands xs told =
     let same : cells ++ [] ≡ cells = append-nil cells in
     subst (λ (l : List Entry). GoesOn w cells a b status l) (sym none) (record {
       any_moment = λ c left. (0, subst (λ (l : List Cell). IsStanding w l c) (sym same) (moments c left));
       stands = λ other. subst (λ (l : List Cell). HoldsLog w l b) (sym same) (stands other);
-      held = λ xs told. inl (subst (λ (l : List Cell). Recovers w l xs) (sym same) (moments xs (laws.counts_now a.clock xs later (laws.held xs told))).recovers);
+      held = (xs, told, inl (subst (λ (l : List Cell). Recovers w l xs) (sym same) (moments xs (laws.counts_now a.clock xs later (laws.held xs told))).recovers));
     })
 
 -- there was no book for the rows
@@ -92,13 +93,14 @@ goes-unopened file old new status h laws unopened w cells holds =
     let now : LeavesNow old.drive (Recovers w cells) = λ c left. subst (Recovers w cells) (sym (holds.durable c left)) holds.standing.recovers in
     let version : LeavesNow old.drive IsNewest = λ c left. subst IsNewest (sym (holds.durable c left)) holds.standing.version in
     let has = recovers_width w cells holds.bytes holds.standing.known holds.standing.recovers in
+    let (xs, told) = told_before new.drive.bytes old.drive.bytes holds.bytes (sym unread.told) holds.told in
     goes-still old.drive new.drive status h w cells laws (unread.newest version).later unopened.none
     (λ c left. record {
       known = holds.standing.known;
       recovers = (unread.keeps w holds.bytes holds.told has holds.bytes cells holds.told now).each c left;
       version = (unread.newest version).each c left;
     })
-    (λ other. unread.stands (λ disk. other (refuses.status_is ∙ ap status_of disk)) w cells holds)
+    (λ other. unread.stands (λ disk. other (refuses.status_is ∙ ap status_of disk)) w cells holds) xs told
 
 -- the origin of rows over a log that stands
 begins-there : (a : Drive) (w : ℕ) (cells : List Cell) → HoldsLog w cells a → (from : Origin) → IsFoundOrigin a from → from ≡ origin_of w cells
@@ -117,6 +119,7 @@ goes-answered report file size rows old new status h laws answered w cells holds
     let settled : IsSynced old.drive = λ xs told c left. holds.durable c left ∙ same_Some holds.bytes xs (sym holds.told ∙ told) in
     let kept : KeepsAll w cells (state_of w cells).world h old.drive new.drive status =
     subst (λ (o : Origin). KeepsAll o.width cells o.state.world h old.drive new.drive status) from (answered.crash holds.bytes cells holds.told first settled) in
+    let (xs, told) = told_before new.drive.bytes old.drive.bytes holds.bytes (sym answered.told) holds.told in
     let text : status ≢ 7 → IsLog w (cells ++ cells_of (state_of w cells).world h) new.drive =
     λ other. subst (λ (o : Origin). IsLog o.width (cells ++ cells_of o.state.world h) new.drive) from (answered.text holds.bytes cells holds.told first other) in
     record {
@@ -125,7 +128,7 @@ goes-answered report file size rows old new status h laws answered w cells holds
           let log = text other in
           holds-text w (cells ++ cells_of (state_of w cells).world h) new.drive holds.standing.known
           (kept.all other log.bytes (laws.held log.bytes log.told)).legal log;
-      held = λ xs told. kept.at_end xs (laws.held xs told);
+      held = (xs, told, kept.at_end xs (laws.held xs told));
     }
 
 goes-rows : {D : Type 0} (report : _) (file : List ℕ) (size : ℕ) (rows : List InRow) (old new : Targets D) (status : ℕ) (h : List Entry) → KeepsLaws new.drive
@@ -266,7 +269,7 @@ module _ {S D : Type 0} (done : Done (Ends S D)) (same : done.new.to.disk ≡ do
   back-goes : done.history ≡ [] → new.disk ≡ old.disk → PlaysOn old.drive new.drive done.status done.history
   back-goes none back w cells holds =
       let still = (back-still back).log w cells holds in
-      goes-still old.drive new.drive done.status done.history w cells laws (omega (arith, ap (λ (d : Drive). d.clock) (same back))) none still.any_moment (λ other. still.stands)
+      goes-still old.drive new.drive done.status done.history w cells laws (omega (arith, ap (λ (d : Drive). d.clock) (same back))) none still.any_moment (λ other. still.stands) still.stands.bytes still.stands.told
 
   none-rows : (report : _) (size : ℕ) (rows : List InRow) → PlaysRows report None size rows old new done.status done.history → OnlyReads old.drive new.drive
   none-rows report size rows (inl unopened) = let (why, (memory, back), refuses) = unopened.refused in back-still back

@@ -42,12 +42,12 @@ pub record TellsLog (w : ℕ) (cells : List Cell) (drive : Drive) : Type 0 where
 
 -- Rows were played over a log that stood. A crash at any moment leaves the log of its cells and some of the history's, in order and none skipped.
 -- The cell of a failed append may follow them all. With any status but 7 the run leaves the log of its cells and all of the history's. With any
--- status, bytes that the drive tells are those cells, to which that of the failed append may be added.
+-- status, the drive tells a log of those cells, to which that of the failed append may be added.
 pub record GoesOn (w : ℕ) (cells : List Cell) (old new : Drive) (status : ℕ) (h : List Entry) : Type 0 where
   pub any_moment : (image : List ℕ) → new.since old.clock image
       → (m : ℕ) × IsStanding w (cells ++ take m (cells_of (state_of w cells).world h ++ failed_cells h)) image
   pub stands : status ≢ 7 → HoldsLog w (cells ++ cells_of (state_of w cells).world h) new
-  pub held : (bytes : List ℕ) → new.bytes ≡ Some bytes → IsWhollyRecovered w cells (state_of w cells).world h bytes
+  pub held : (bytes : List ℕ) × (new.bytes ≡ Some bytes) × IsWhollyRecovered w cells (state_of w cells).world h bytes
 
 -- a log that stood was only read: it still stands, with any status, and so it did at any moment
 pub record StandsStill (w : ℕ) (cells : List Cell) (old new : Drive) : Type 0 where

@@ -22,7 +22,7 @@ use Rattle.log_compact.proofs.Inner.{inner_names-forest}
 use Rattle.log_compact.proofs.Counting.{length-fresh_cells}
 use Rattle.log_compact.proofs.FreshState.{fresh_state, fresh_begun}
 
--- there are fewer inner names than leaves
+-- There are at most as many inner names as leaves.
 names-few : (w : ℕ) → IsWidth w → (leaves : List (List Bool)) → ComesBySplits w leaves → length (inner_names w leaves) ≤ length leaves
 names-few w (inl one) leaves by =
     subst (λ v. ComesBySplits v leaves → length (inner_names v leaves) ≤ length leaves) (sym one)
@@ -36,7 +36,7 @@ names-few w (inr both) leaves by =
 pub fresh-short : (w : ℕ) → IsWidth w → (world : World) (leaves : List (List Bool)) → ComesBySplits w leaves → length (fresh_cells w world leaves) ≤ length world + 2 * length leaves
 fresh-short w width world leaves by = omega (arith, length-fresh_cells w world leaves, names-few w width leaves by)
 
--- with these numbers it is what is found
+-- With these numbers it is what is found.
 module _ (w : ℕ) (width : IsWidth w) (seen : Seen) (world : IsWorld seen.world) (by : ComesBySplits w seen.leaves) (short : AreShort seen.leaves) where
   pub is-fresh : length (fresh_cells w seen.world seen.leaves) ≤ most_cells → seen.unfinished ≡ 0 → seen.cells ≡ length (fresh_cells w seen.world seen.leaves)
       → seen.begun ≡ length (inner_names w seen.leaves) → seen.version ≡ newest → IsFresh w seen
@@ -55,7 +55,7 @@ module _ (w : ℕ) (width : IsWidth w) (seen : Seen) (world : IsWorld seen.world
         version = version;
       }
 
--- a log stands there, where the bytes are known
+-- If the bytes are known, the file is a log.
 module _ (w : ℕ) (cells : List Cell) (old new : Drive) (made : IsCompacted w cells old new) (xs : List ℕ) (told : new.bytes ≡ Some xs) where
   there : IsLog w cells new
   there = let (bytes, before) = told_before old.bytes new.bytes xs made.told told in (made.log bytes before).1
@@ -75,7 +75,7 @@ module _ (w : ℕ) (cells : List Cell) (old new : Drive) (made : IsCompacted w c
   recovers : IsLegalCells w cells → Recovers w cells xs
   recovers legal = record { version = newest; known = inr refl; holds = holds; legal = legal }
 
--- and it is what was to be found
+-- The log is the one that was to be found.
 pub stands-found : (w : ℕ) (seen : Seen) (old new : Drive) → IsFresh w seen → IsLegalCells w (fresh_cells w seen.world seen.leaves)
     → IsCompacted w (fresh_cells w seen.world seen.leaves) old new → StandsFound w seen new
 stands-found w seen old new fresh legal made =

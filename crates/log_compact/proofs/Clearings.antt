@@ -1,4 +1,4 @@
--- What a crash leaves while the first commit byte of a log is cleared, and while what stands behind it is cut off.
+-- What a crash leaves while the first commit byte of a log is cleared, and while the bytes after it are cut off.
 use Rattle.std.proofs.Common.{◌≡◌, ◌≢◌, inl, inr, ℕ, ◌≤◌, List, [], ◌∷◌, ◌++◌, length, get_or, take, drop, Some, Option, Result, is_some, refl, sym, ◌∙◌, ap, subst, arith, append_assoc, length-append, length-take, take-append-drop}
 use Rattle.std.proofs.lemmas.List.{append-nil, take_at}
 use Rattle.std.proofs.lemmas.Bool.{cases_eq}
@@ -16,14 +16,14 @@ use Rattle.log_compact.specs.Clearing.{Clears, KeepsOrClears}
 use Rattle.split_log.proofs.Torn.{marked, torn_mark, written_mark}
 use Rattle.split_log.proofs.Cells.{length-front_of, length-log, holds_front}
 
--- what stands before the first commit byte
+-- The text before the first commit byte.
 abbrev head : ℕ → List ℕ
 head w = front_of newest w []
 
 long : (w : ℕ) → length (head w) ≡ 16
 long w = length-front_of newest w []
 
--- the text of cells is their head, a commit byte, and the rest; of some cells that byte is set
+-- The text of cells is their head, a commit byte, and the rest. If there are cells, that byte is set.
 record Begins (w : ℕ) (cells : List Cell) (bytes : List ℕ) : Type 0 where
   first : ℕ
   rest : List ℕ
@@ -44,7 +44,7 @@ begins w (c ∷ cells) bytes text =
       set = λ some. refl;
     }
 
--- behind a clear commit byte there are no cells, whatever stands there
+-- After a clear commit byte there are no cells, whatever bytes follow.
 empty_text : (w mark : ℕ) → mark ≢ 1 → IsLogText newest w [] (marked (head w) mark [])
 empty_text w mark clear = record { cells_fit = tt; commit_byte = mark; clear = clear; text = refl }
 
@@ -54,7 +54,7 @@ no_cells w mark rest c clear e = holds_front w [] (marked (head w) mark []) rest
 zero_clear : ◌≢◌ {A = ℕ} 0 1
 zero_clear e = cc e
 
--- a torn write of the first commit byte leaves the cells or none
+-- A torn write of the first commit byte leaves all cells or none.
 torn_first : (w : ℕ) (cells : List Cell) (bytes c : List ℕ) → cells ≢ [] → IsLogText newest w cells bytes → Torn 16 1 bytes c → HoldsAllOrNone w [] cells c
 torn_first w cells bytes c some text torn =
     let b = begins w cells bytes text in
@@ -66,19 +66,19 @@ torn_first w cells bytes c some text torn =
       | inr clear ↦ inl (no_cells w (get_or c 16 0) b.rest c clear is)
     ]
 
--- the first 17 bytes end with that byte
+-- The first 17 bytes end with that byte.
 first_bytes : (w mark : ℕ) (rest : List ℕ) → take 17 (marked (head w) mark rest) ≡ marked (head w) mark []
 first_bytes w mark rest =
     ap (take 17) (sym (append_assoc (head w) (mark ∷ []) rest))
     ∙ take_at (marked (head w) mark []) rest 17 (omega (arith, length-append (head w) (mark ∷ []), long w))
 
--- a cut behind a clear commit byte leaves no cells, however far it came
+-- A cut after a clear commit byte leaves no cells, however far it came.
 cut_short : (w : ℕ) (rest c : List ℕ) → Shortened 17 (marked (head w) 0 rest) c → HoldsCells newest w [] c
 cut_short w rest c cut =
     holds_front w [] (marked (head w) 0 []) (drop 17 c) c (empty_text w 0 zero_clear)
     (sym (take-append-drop 17 c) ∙ ap (λ (l : List ℕ). l ++ drop 17 c) (cut.before ∙ first_bytes w 0 rest))
 
--- each call of the four
+-- Each of the four calls.
 module _ (w : ℕ) (cells : List Cell) (d0 : Drive) (log : IsLog w cells d0) (laws : KeepsLaws d0) (some : cells ≢ []) where
   pub still_all : LeavesOnly d0 d0 (HoldsAllOrNone w [] cells)
   still_all = started d0 (HoldsAllOrNone w [] cells) laws (λ c left. inr (holds_front w cells log.bytes [] c log.text (log.durable c left ∙ sym (append-nil log.bytes))))
@@ -96,7 +96,7 @@ module _ (w : ℕ) (cells : List Cell) (d0 : Drive) (log : IsLog w cells d0) (la
       pub synced : LeavesOnly d0 d2 (HoldsAllOrNone w [] cells)
       synced = goes_on d0 d1 d2 (HoldsAllOrNone w [] cells) written second.time (λ c left. written_now c (second.crash c left))
 
--- what stands there, where they went well
+-- What the file holds, if the calls went well.
 module _ (w : ℕ) (cells : List Cell) (d0 : Drive) (log : IsLog w cells d0) (d1 : Drive)
     (done1 : (xs : List ℕ) → d0.bytes ≡ Some xs → (ys : List ℕ) × (d1.bytes ≡ Some ys) × Holds xs 16 (0 ∷ []) ys)
     (d2 : Drive) (kept : d2.bytes ≡ d1.bytes) (done2 : (xs : List ℕ) → d1.bytes ≡ Some xs → Only xs d2.images) where
@@ -112,7 +112,7 @@ module _ (w : ℕ) (cells : List Cell) (d0 : Drive) (log : IsLog w cells d0) (d1
   only2 = done2 (marked (head w) 0 b.rest) told1
 
   module _ (d3 : Drive) (result3 : Result (Unit {0}) DiskFault) (third : Cuts d2 d3 17 result3) where
-    -- from the cut on no crash leaves a cell
+    -- From the cut on no crash leaves a cell.
     cut_now : LeavesNow d3 (HoldsCells newest w [])
     cut_now c left =
         let from = third.crash c left in
@@ -125,14 +125,14 @@ module _ (w : ℕ) (cells : List Cell) (d0 : Drive) (log : IsLog w cells d0) (d1
       pub all_done : (d4 : Drive) (result4 : Result (Unit {0}) DiskFault) → Syncs d3 d4 result4 → LeavesOnly d0 d4 (HoldsAllOrNone w [] cells)
       all_done d4 result4 fourth = goes_on d0 d3 d4 (HoldsAllOrNone w [] cells) cut fourth.time (λ c left. inl (cut_now c (fourth.crash c left)))
 
-  -- after all four the log has no cells
+  -- After all four calls the log has no cells.
   pub cleared : (d3 d4 : Drive) → ((xs : List ℕ) → d2.bytes ≡ Some xs → d3.bytes ≡ Some (take 17 xs)) → d4.bytes ≡ d3.bytes → ((xs : List ℕ) → d3.bytes ≡ Some xs → Only xs d4.images)
       → IsLog w [] d4
   cleared d3 d4 done3 kept4 done4 =
       let told3 : d3.bytes ≡ Some (marked (head w) 0 []) = done3 (marked (head w) 0 b.rest) (kept ∙ told1) ∙ ap Some (first_bytes w 0 b.rest) in
       record { bytes = marked (head w) 0 []; told = kept4 ∙ told3; text = empty_text w 0 zero_clear; durable = done4 (marked (head w) 0 []) told3 }
 
--- the write keeps the length of a file that has 17 bytes
+-- The write keeps the length of a file that has 17 bytes.
 some_same : (a b : List ℕ) → ◌≡◌ {A = Option (List ℕ)} (Some a) (Some b) → a ≡ b
 some_same a b e = cc e
 
@@ -150,7 +150,7 @@ still_within d0 d1 told within done ys now =
       within xs before,
     )
 
--- a log of some cells has them, and more than 17 bytes
+-- A log of some cells has them, and more than 17 bytes.
 log-within : (count : ℕ) (drive : Drive) → KeepsLog count drive → (xs : List ℕ) → drive.bytes ≡ Some xs → 17 ≤ length xs
 log-within count drive kept xs told = omega (arith, length-log count xs (kept.text xs told))
 
@@ -159,14 +159,14 @@ log-some count drive kept some w cells log none =
     let is : IsLogOf 0 log.bytes = record { width = w; cells = cells; count_is = ap length none; text = log.text } in
     some (omega (arith, length-log 0 log.bytes is, length-log count log.bytes (kept.text log.bytes log.told)))
 
--- and one of none has none
+-- A log of no cells has none.
 log-none : (count : ℕ) (drive : Drive) → KeepsLog count drive → count ≡ 0 → (w : ℕ) (cells : List Cell) → IsLog w cells drive → cells ≡ []
 log-none count drive kept none w [] log = refl
 log-none count drive kept none w (c ∷ cells) log =
     let is : IsLogOf (length (c ∷ cells)) log.bytes = record { width = w; cells = c ∷ cells; count_is = refl; text = log.text } in
     absurd (omega (arith, length-log (length (c ∷ cells)) log.bytes is, length-log count log.bytes (kept.text log.bytes log.told), none))
 
--- a log that is given back, and cleared or left
+-- A log that is given back, and cleared or left unchanged.
 module _ {D : Type 0} (drive : D → Drive) (disk back : D) (same : back ≡ disk) (count : ℕ) (kept : KeepsLog count (drive disk)) where
   pub back-within : (xs : List ℕ) → (drive back).bytes ≡ Some xs → 17 ≤ length xs
   back-within xs told = log-within count (drive disk) kept xs (subst (λ (d : D). (drive d).bytes ≡ Some xs) same told)

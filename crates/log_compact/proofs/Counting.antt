@@ -1,4 +1,4 @@
--- Fresh cells are no more than the cells whose state they are made of.
+-- Fresh cells are no more than the cells whose state they represent.
 use Rattle.std.proofs.Common.{◌≡◌, inl, inr, ℕ, suc, ◌+◌, ◌*◌, ◌≤◌, Bool, true, false, not, ◌==◌, List, [], ◌∷◌, ◌++◌, length, map, cond, Option, Some, None, is_some, refl, sym, ◌∙◌, ap, subst, arith, length-append}
 use Rattle.std.specs.List.{filter}
 use Rattle.std.specs.Cmp.{first_so, second_so}
@@ -21,11 +21,11 @@ use Rattle.zorder.specs.Width.{IsWidth}
 use Rattle.log_compact.proofs.Forest.{forest_of, length-one, length-two}
 use Rattle.log_compact.proofs.Inner.{inner_names-forest}
 
--- the leaves of any cells come by splits
+-- The leaves of any cells come by splits.
 pub comes_by_splits : (w : ℕ) (cells : List Cell) → ComesBySplits w (state_of w cells).leaves
 comes_by_splits w cells = come-after w empty_state (map entry_of cells) (come-first w)
 
--- an operation makes at most one object more
+-- An operation adds at most one object.
 length-filter-le : {A : Type 0} (p : A → Bool) (xs : List A) → length (filter p xs) ≤ length xs
 length-filter-le p [] = omega arith
 length-filter-le p (x ∷ xs) = by_test (p x) (length-filter-le p xs)
@@ -49,7 +49,7 @@ length-after_of world o = by_test (is_change (answer_of world o)) (length-change
     by_test true le = le
     by_test false le = omega arith
 
--- an open split that ends is one less
+-- When an open split ends, there is one fewer.
 length-without_number : (number : ℕ) (splits : List OpenSplit) → is_some (split_name splits number) ≡ true → length (without_number number splits) + 1 ≤ length splits
 length-without_number number [] found = absurd (true≢false (sym found))
 length-without_number number (s ∷ splits) found =
@@ -60,7 +60,7 @@ length-without_number number (s ∷ splits) found =
     by_test true found later le = omega (arith, le)
     by_test false found later le = omega (arith, later found)
 
--- a split makes at most as many leaves more as it has children beyond one
+-- A split adds at most as many leaves as it has children, less one.
 length-split_one : (name : List Bool) (leaves : List (List Bool)) → length (split_leaf 1 name leaves) ≤ length leaves + 1
 length-split_one name [] = omega arith
 length-split_one name (leaf ∷ leaves) = by_test (same_name leaf name) (length-split_one name leaves)
@@ -90,7 +90,7 @@ begun-few s number name =
     let new : List OpenSplit = record { number = number; name = name } ∷ [] in
     omega (arith, length-append (without_name name s.splits) new, length-filter-le (λ (o : OpenSplit). not (same_name o.name name)) s.splits)
 
--- what stands in a state, each thing with the cells that it takes at least, where a split makes two children
+-- The parts of a state, each with the least number of cells that it takes, if a split has two children.
 abbrev weight_one : State → ℕ
 weight_one s = length s.world + length s.splits + 2 * length s.leaves
 
@@ -109,7 +109,7 @@ all-one s (c ∷ cells) legal =
     let rest = all-one (step 1 s (entry_of c)) cells (second_so (is_possible_cell 1 s c) (is_legal_cells 1 (step 1 s (entry_of c)) cells) legal) in
     omega (arith, one, rest)
 
--- the same three times, where a split makes four children
+-- Three times that number, if a split has four children.
 abbrev weight_two : State → ℕ
 weight_two s = 3 * length s.world + 3 * length s.splits + 2 * length s.leaves
 
@@ -140,7 +140,7 @@ pub length-fresh_cells : (w : ℕ) (world : World) (leaves : List (List Bool)) �
 length-fresh_cells w world leaves =
     length-append (split_cells 1 (inner_names w leaves)) (put_cells world) ∙ (λ i. length-split_cells 1 (inner_names w leaves) i + length-put_cells world i)
 
--- of what legal cells stand for, the fresh cells are no more than these
+-- The fresh cells of a state are no more than legal cells that lead to it.
 pub fresh_few : (w : ℕ) → IsWidth w → (cells : List Cell) → IsLegalCells w cells → length (fresh_cells w (state_of w cells).world (state_of w cells).leaves) ≤ length cells
 fresh_few w (inl one) cells legal =
     subst (λ v. IsLegalCells v cells → length (fresh_cells v (state_of v cells).world (state_of v cells).leaves) ≤ length cells) (sym one)

@@ -1,4 +1,4 @@
--- The names behind some leaves: which splits they come by.
+-- The splits that create some leaves, and the names that were split.
 use Rattle.std.proofs.Common.{◌≡◌, inl, inr, ℕ, ◌+◌, ◌*◌, ◌-◌, ◌<◌, ◌≤◌, Bool, true, false, List, [], ◌∷◌, ◌++◌, length, cond, refl, sym, ◌∙◌, ap, subst, arith, append_assoc, length-append}
 use Rattle.std.proofs.lemmas.List.{append-nil}
 use Rattle.std.proofs.lemmas.Nat.{pow_pos}
@@ -12,22 +12,22 @@ use Rattle.zorder.specs.Width.{IsWidth}
 use Rattle.log_compact.specs.Walk.{AreShort}
 use Rattle.log_compact.proofs.Order.{is_left, left-under}
 
--- Some roots, the leaves that stand under them, and the names that were split on the way, each before those under it.
+-- Some roots, the leaves under them, and the names that were split in between, each before those under it.
 pub data Forest (w : ℕ) : List (List Bool) → List (List Bool) → List (List Bool) → Type 0 where
   none : Forest w [] [] []
   leaf : (name : List Bool) (roots leaves inner : List (List Bool)) → Forest w roots leaves inner → Forest w (name ∷ roots) (name ∷ leaves) inner
   split : (name : List Bool) (roots leaves inner : List (List Bool)) → Forest w (children w name ++ roots) leaves inner → Forest w (name ∷ roots) leaves (name ∷ inner)
 
--- roots that weren't split stand before others
+-- Roots that weren't split come before others.
 unsplit : (w : ℕ) (names roots leaves inner : List (List Bool)) → Forest w roots leaves inner → Forest w (names ++ roots) (names ++ leaves) inner
 unsplit w [] roots leaves inner f = f
 unsplit w (n ∷ names) roots leaves inner f = leaf n (names ++ roots) (names ++ leaves) inner (unsplit w names roots leaves inner f)
 
--- some names that were split on the way to these leaves
+-- Some names were split between these roots and these leaves.
 abbrev pub ComesBy : ℕ → List (List Bool) → List (List Bool) → Type 0
 ComesBy w roots leaves = (inner : List (List Bool)) × Forest w roots leaves inner
 
--- one split more
+-- One more split.
 split_one : (w : ℕ) (name : List Bool) (roots leaves inner : List (List Bool)) → Forest w roots leaves inner → ComesBy w roots (split_leaf w name leaves)
 split_one w name _ _ _ none = ([], none)
 split_one w name _ _ _ (leaf n roots leaves inner f) = by_test (same_name n name) (same_name-decides n name).0 (split_one w name roots leaves inner f)
@@ -42,17 +42,17 @@ splits : (w : ℕ) (names roots leaves : List (List Bool)) → ComesBy w roots l
 splits w [] roots leaves by = by
 splits w (name ∷ names) roots leaves by = splits w names roots (split_leaf w name leaves) (split_one w name roots leaves by.0 by.1)
 
--- leaves that come from the empty name by splits
+-- Leaves that splits create from the empty name.
 pub forest_of : (w : ℕ) (leaves : List (List Bool)) → ComesBySplits w leaves → ComesBy w ([] ∷ []) leaves
 forest_of w leaves by = subst (ComesBy w ([] ∷ [])) (sym by.leaves_are) (splits w by.names ([] ∷ []) ([] ∷ []) ([], leaf [] [] [] [] none))
 
--- a name of w bits more than another
+-- A name that has `w` bits more than another one.
 pub record IsChild (w : ℕ) (name child : List Bool) : Type 0 where
   pub bits : List Bool
   pub is : child ≡ name ++ bits
   pub long : length bits ≡ w
 
--- each of the names is left of those behind it
+-- Each of the names is left of those after it.
 abbrev pub ArePartedFrom : List Bool → List (List Bool) → Type 0
 ArePartedFrom name names = AllByRecursion (λ (n : List Bool). is_left name n ≡ true) names
 
@@ -60,21 +60,21 @@ abbrev pub AreParted : List (List Bool) → Type 0
 AreParted [] = Unit {0}
 AreParted (n ∷ names) = ArePartedFrom n names × AreParted names
 
--- what there is of a name's children
+-- What the children of a name have.
 pub record AreChildren (w : ℕ) (name : List Bool) (names : List (List Bool)) : Type 0 where
   pub first : List Bool
   pub others : List (List Bool)
   pub are : names ≡ first ∷ others
   pub grown : AllByRecursion (IsChild w name) names
   pub parted : AreParted names
-  -- the first one has the name's first key, and that of each other is above it
+  -- The first child has the name's first key, and the first key of each other child is above it.
   pub same_key : length name + w ≤ 64 → first_key first ≡ first_key name
   pub above : length name + w ≤ 64 → AllByRecursion (λ (c : List Bool). first_key name < first_key c) others
 
 child : (w : ℕ) (name bits : List Bool) → length bits ≡ w → IsChild w name (name ++ bits)
 child w name bits long = record { bits = bits; is = refl; long = long }
 
--- the first key of a name with one bit more
+-- The first key of a name with one more bit.
 module _ (name : List Bool) (room : length name + 1 ≤ 64) where
   with_zero : first_key (name ++ false ∷ []) ≡ first_key name
   with_zero = first_left name room
@@ -93,7 +93,7 @@ two name = record {
   above = λ room. (with_one name room, tt);
 }
 
--- the first key of a name with two bits more
+-- The first key of a name with two more bits.
 module _ (name : List Bool) (room : length name + 2 ≤ 64) where
   half_room : (a : Bool) → length (name ++ a ∷ []) + 1 ≤ 64
   half_room a = omega (arith, length-append name (a ∷ []), room)
@@ -142,7 +142,7 @@ pub children_are : (w : ℕ) (name : List Bool) → IsWidth w → AreChildren w 
 children_are w name (inl one) = subst (λ v. AreChildren v name (children v name)) (sym one) (two name)
 children_are w name (inr both) = subst (λ v. AreChildren v name (children v name)) (sym both) (four name)
 
--- the first leaf under a name
+-- The first leaf under a name.
 pub record Leads (name : List Bool) (leaves : List (List Bool)) : Type 0 where
   pub bits : List Bool
   pub rest : List (List Bool)
@@ -167,7 +167,7 @@ leads w width _ _ _ (split n roots leaves inner f) name more e =
           (ap (λ (m : List Bool). m ++ below.bits) (c.is ∙ ap (λ (m : List Bool). m ++ c.bits) (first_name n name roots more e)) ∙ append_assoc name c.bits below.bits);
     }
 
--- the leaves under a name that was split have more bits, so that the name has bits left
+-- The leaves under a name that was split have more bits, so the name has bits left.
 pub leads-split : (w : ℕ) → IsWidth w → (name : List Bool) (roots leaves inner : List (List Bool)) → Forest w (children w name ++ roots) leaves inner
     → (bits : List Bool) × (Leads (name ++ bits) leaves) × (length bits ≡ w)
 leads-split w width name roots leaves inner f =
@@ -181,7 +181,7 @@ split-room w width name roots leaves inner f short =
     let first : length ((name ++ bits) ++ below.bits) ≤ 64 = (subst AreShort below.are short).0 in
     omega (arith, first, length-append (name ++ bits) below.bits, length-append name bits, long)
 
--- how many leaves there are behind so many splits
+-- The number of leaves after so many splits.
 pub length-one : (roots leaves inner : List (List Bool)) → Forest 1 roots leaves inner → length leaves ≡ length roots + length inner
 length-one _ _ _ none = refl
 length-one _ _ _ (leaf n roots leaves inner f) = omega (arith, length-one roots leaves inner f)

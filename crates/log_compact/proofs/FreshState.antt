@@ -1,4 +1,4 @@
--- The state of fresh cells is the state that they were made of.
+-- Fresh cells lead to the state that they represent.
 use Rattle.std.proofs.Common.{◌≡◌, ℕ, zero, suc, ◌+◌, ◌<◌, ◌≤◌, Bool, true, false, not, ◌==◌, List, [], ◌∷◌, ◌++◌, length, take, drop, get_or, cond, Some, None, is_some, refl, sym, ◌∙◌, ap, subst, arith, append_assoc, length-take}
 use Rattle.std.specs.Prelude.{nat_le, ◌||◌}
 use Rattle.std.specs.List.{AllByRecursion}
@@ -29,11 +29,11 @@ use Rattle.zorder.specs.Width.{IsWidth}
 use Rattle.log_compact.proofs.Forest.{Forest, none, leaf, split, forest_of, ArePartedFrom, AreParted, IsChild, children_are, split-room}
 use Rattle.log_compact.proofs.Inner.{inner_names-forest, AreLeft, parted-children}
 
--- a state without an open split
+-- A state without an open split.
 abbrev pub settled : World → List (List Bool) → ℕ → State
 settled world leaves begun = record { world = world; leaves = leaves; splits = []; begun = begun }
 
--- the name is among the leaves, and they are split there
+-- The name is among the leaves, and they are split there.
 is_leaf-at : (before roots : List (List Bool)) (name : List Bool) → AllByRecursion (λ b. is_left b name ≡ true) before → is_leaf (before ++ name ∷ roots) name ≡ true
 is_leaf-at [] roots name left = ap (λ t. t || is_leaf roots name) ((same_name-decides name name).1 refl)
 is_leaf-at (b ∷ before) roots name left = ap (λ t. t || is_leaf (before ++ name ∷ roots) name) (before-differ b name (left-before b name left.0)) ∙ is_leaf-at before roots name left.1
@@ -45,12 +45,12 @@ split_leaf-at w (b ∷ before) roots name left =
     ap (λ t. cond t (children w name ++ (before ++ name ∷ roots)) (b ∷ split_leaf w name (before ++ name ∷ roots))) (before-differ b name (left-before b name left.0))
     ∙ ap (λ (l : List (List Bool)). b ∷ l) (split_leaf-at w before roots name left.1)
 
--- cells that are legal from one state on, and lead to another one
+-- Cells that are legal from one state on, and lead to another one.
 record Leads_to (w : ℕ) (from to : State) (cells : List Cell) : Type 0 where
   legal : is_legal_cells w from cells ≡ true
   after : cells_after w from cells ≡ to
 
--- the begin and the install of a leaf
+-- The begin and the install of a leaf.
 module _ (w : ℕ) (world : World) (before roots : List (List Bool)) (name : List Bool) (k : ℕ) (left : AllByRecursion (λ b. is_left b name ≡ true) before) (room : length name + w ≤ 64) where
   number : ((k + 1) == (k + 1)) ≡ true
   number = eq-eqb (k + 1) (k + 1) refl
@@ -86,7 +86,7 @@ module _ (w : ℕ) (world : World) (before roots : List (List Bool)) (name : Lis
     after = ap (λ s. cells_after w s (split_cells (k + 1 + 1) inner)) installed-is ∙ rest.after;
   }
 
--- what is left of a name is left of its children, and of other roots
+-- What is left of a name is left of its children, and of other roots.
 left-split : (w : ℕ) → IsWidth w → (name : List Bool) (before roots : List (List Bool)) → AreLeft before (name ∷ roots) → AreLeft before (children w name ++ roots)
 left-split w width name before roots left =
     let cs = children_are w name width in
@@ -105,7 +105,7 @@ left-tail : (before roots : List (List Bool)) (name : List Bool) → AreLeft bef
 left-tail before roots name left parted =
     all-append (λ b. ArePartedFrom b roots) before (name ∷ []) (all-weaken (λ b. ArePartedFrom b (name ∷ roots)) (λ b. ArePartedFrom b roots) (λ b all. all.1) before left) (parted, tt)
 
--- the splits lead from roots to leaves
+-- The splits lead from roots to leaves.
 splits-lead : (w : ℕ) → IsWidth w → (roots leaves inner : List (List Bool)) → Forest w roots leaves inner → (world : World) (before : List (List Bool)) (k : ℕ)
     → AreLeft before roots → AreParted roots → AreShort leaves
     → Leads_to w (settled world (before ++ roots) k) (settled world (before ++ leaves) (k + length inner)) (split_cells (k + 1) inner)
@@ -123,7 +123,7 @@ splits-lead w width _ _ _ (split n roots leaves inner f) world before k left par
     goes_on w world before roots n k (left-head before roots n left) room inner (settled world (before ++ leaves) (k + suc (length inner)))
     (subst (λ m. Leads_to w (settled world (before ++ (children w n ++ roots)) (k + 1)) (settled world (before ++ leaves) m) (split_cells (k + 1 + 1) inner)) count rest)
 
--- the puts lead from the objects before one to all
+-- The puts lead from the objects before one to all.
 puts-lead : (w : ℕ) (world : World) → IsWorld world → (leaves : List (List Bool)) (k j i : ℕ) → i + j ≡ length world
     → Leads_to w (settled (take i world) leaves k) (settled world leaves k) (put_cells (drop i world))
 puts-lead w world is leaves k zero i e =
@@ -150,7 +150,7 @@ puts-lead w world is leaves k (suc j) i e =
     full-not : (n : ℕ) → n < most_members → nat_le most_members n ≡ false
     full-not n lt = grind (arith, nat_tests)
 
--- the fresh cells lead to the world and the leaves that they were made of, by a split of each inner name
+-- The fresh cells lead to their world and their leaves, by a split of each inner name.
 fresh_leads : (w : ℕ) → IsWidth w → (world : World) (leaves : List (List Bool)) → IsWorld world → ComesBySplits w leaves → AreShort leaves
     → Leads_to w (settled [] ([] ∷ []) 0) (settled world leaves (length (inner_names w leaves))) (fresh_cells w world leaves)
 fresh_leads w width world leaves is by short =
@@ -167,13 +167,13 @@ fresh_leads w width world leaves is by short =
     (sym (inner_names-forest w width leaves inner f))
     (record { legal = legal; after = after ∙ ap (settled world leaves) count })
 
--- fresh cells are legal, and their state is the world and the leaves that they were made of
+-- Fresh cells are legal, and lead to their world and their leaves.
 pub fresh_state : (w : ℕ) → IsWidth w → (world : World) (leaves : List (List Bool)) → IsWorld world → ComesBySplits w leaves → AreShort leaves → IsStateOf w (fresh_cells w world leaves) world leaves
 fresh_state w width world leaves is by short =
     let leads = fresh_leads w width world leaves is by short in
     record { legal = leads.legal; world_is = ap (λ s. s.world) leads.after; leaves_are = ap (λ s. s.leaves) leads.after; at_rest = ap (λ s. s.splits) leads.after }
 
--- each inner name has been begun
+-- Each inner name was begun.
 pub fresh_begun : (w : ℕ) → IsWidth w → (world : World) (leaves : List (List Bool)) → IsWorld world → ComesBySplits w leaves → AreShort leaves
     → (state_of w (fresh_cells w world leaves)).begun ≡ length (inner_names w leaves)
 fresh_begun w width world leaves is by short = ap (λ s. s.begun) (fresh_leads w width world leaves is by short).after

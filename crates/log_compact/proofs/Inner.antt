@@ -1,4 +1,4 @@
--- The inner names of leaves: those that were split on the way to them, in order, each at the first leaf under it.
+-- The inner names of leaves: those that were split to create them, in order, each at the first leaf under it.
 use Rattle.std.proofs.Common.{◌≡◌, inl, inr, ℕ, ◌<◌, Bool, true, List, [], ◌∷◌, ◌++◌, length, refl, sym, ◌∙◌, ap, subst, arith, append_assoc}
 use Rattle.std.proofs.lemmas.List.{append-nil}
 use Rattle.std.proofs.lemmas.List.Sums.{fold-append}
@@ -13,18 +13,18 @@ use Rattle.zorder.specs.Width.{IsWidth}
 use Rattle.log_compact.proofs.Forest.{Forest, none, leaf, split, forest_of, IsChild, ArePartedFrom, AreParted, children_are, Leads, leads-split, split-room}
 use Rattle.log_compact.proofs.Prefixes.{is_aligned, aligned-child, prefixes_by-append, prefixes_by-child, later_prefixes, new_names-first, new_names-other}
 
--- roots that may be split
+-- Roots that may be split.
 abbrev pub AreAligned : ℕ → List (List Bool) → Type 0
 AreAligned w roots = AllByRecursion (λ n. is_aligned w n ≡ true) roots
 
 aligned-children : (w : ℕ) → IsWidth w → (name : List Bool) → is_aligned w name ≡ true → (cs : List (List Bool)) → AllByRecursion (IsChild w name) cs → AreAligned w cs
 aligned-children w width name aligned cs grown = all-weaken (IsChild w name) (λ n. is_aligned w n ≡ true) (λ c is. aligned-child w width name c aligned is) cs grown
 
--- nothing is new at these names
+-- Nothing is new at these names.
 abbrev AreOld : ℕ → List (List Bool) → Type 0
 AreOld w names = AllByRecursion (λ n. new_names w n ≡ []) names
 
--- nothing is new at the names behind the first
+-- Nothing is new at the names after the first one.
 abbrev AreOldBehind : ℕ → List (List Bool) → Type 0
 AreOldBehind w [] = Unit {0}
 AreOldBehind w (n ∷ names) = AreOld w names
@@ -46,7 +46,7 @@ old-others : (w : ℕ) → IsWidth w → (name : List Bool) → is_aligned w nam
 old-others w width name aligned [] grown above = tt
 old-others w width name aligned (c ∷ cs) grown above = (new_names-other w width name c aligned grown.0 above.0, old-others w width name aligned cs grown.1 above.1)
 
--- walked from leaf to leaf, the new names are those that were split
+-- On a walk from leaf to leaf, the new names are those that were split.
 walked : (w : ℕ) → IsWidth w → (roots leaves inner : List (List Bool)) → Forest w roots leaves inner → AreAligned w roots → AreOldBehind w roots → AreShort leaves
     → all_new_names w leaves ≡ new_at_head w roots ++ inner
 walked w width _ _ _ none aligned old short = refl
@@ -64,7 +64,7 @@ walked w width _ _ _ (split n roots leaves inner f) aligned old short =
     ∙ ap (λ (l : List (List Bool)). l ++ inner) (new_names-first w width n cs.first aligned.0 grown.0 (cs.same_key room))
     ∙ append_assoc (new_names w n) (n ∷ []) inner
 
--- each of these names is left of each root
+-- Each of these names is left of each root.
 abbrev pub AreLeft : List (List Bool) → List (List Bool) → Type 0
 AreLeft names roots = AllByRecursion (λ n. ArePartedFrom n roots) names
 
@@ -73,7 +73,7 @@ parted-append [] roots first second left = second
 parted-append (n ∷ names) roots first second left =
     (all-append (λ m. is_left n m ≡ true) names roots first.0 left.0, parted-append names roots first.1 second left.1)
 
--- what is left of other names is so with more bits
+-- A name that is left of others stays so with more bits.
 left-grown : (name c : List Bool) (w : ℕ) → IsChild w name c → (roots : List (List Bool)) → ArePartedFrom name roots → ArePartedFrom c roots
 left-grown name c w is [] left = tt
 left-grown name c w is (r ∷ roots) left = (
@@ -87,7 +87,7 @@ parted-children w width name roots left parted =
     parted-append (children w name) roots cs.parted parted
     (all-weaken (IsChild w name) (λ c. ArePartedFrom c roots) (λ c is. left-grown name c w is roots left) (children w name) cs.grown)
 
--- Names that were split so far, and roots that come after all of them: the prefixes of the roots are among these names.
+-- Names that were split so far, and roots that come after all of them. The prefixes of the roots are among these names.
 record IsReady (w : ℕ) (names roots : List (List Bool)) : Type 0 where
   rising : AreRising names
   before : AllByRecursion (λ r. AreBefore r names) roots
@@ -95,7 +95,7 @@ record IsReady (w : ℕ) (names roots : List (List Bool)) : Type 0 where
   among : AllByRecursion (λ r. AllByRecursion (IsAmong names) (prefixes_by w r)) roots
   aligned : AreAligned w roots
 
--- with one name more
+-- With one more name.
 before-push : (names : List (List Bool)) (name root : List Bool) → AreBefore root names → comes_before name root ≡ true → AreBefore root (names ++ name ∷ [])
 before-push names name root before this = all-append (λ n. comes_before n root ≡ true) names (name ∷ []) before (this, tt)
 
@@ -146,7 +146,7 @@ ready-leaf : (w : ℕ) (names : List (List Bool)) (name : List Bool) (roots : Li
 ready-leaf w names name roots ready =
     record { rising = ready.rising; before = ready.before.1; parted = ready.parted.1; among = ready.among.1; aligned = ready.aligned.1 }
 
--- the first leaf under a name that was split puts the name behind the others
+-- The first leaf under a name that was split adds the name after the others.
 put-split : (w : ℕ) → IsWidth w → (names : List (List Bool)) (name : List Bool) (roots leaves : List (List Bool)) → IsReady w names (name ∷ roots) → (bits : List Bool) → length bits ≡ w → Leads (name ++ bits) leaves
     → with_names names (flat_map (prefixes_by w) leaves) ≡ with_names (names ++ name ∷ []) (flat_map (prefixes_by w) leaves)
 put-split w width names name roots leaves ready [] long below = elim width [ inl one ↦ absurd (omega arith) | inr both ↦ absurd (omega arith) ]
@@ -174,7 +174,7 @@ put-split w width names name roots leaves ready (b ∷ bits) long below =
     ∙ ap (λ (ns : List (List Bool)). with_names ns (tail ++ rest)) (with_names-among more (old ++ name ∷ []) rising among) in
     ap (with_names names) text ∙ once ∙ sym again ∙ sym (ap (with_names more) text)
 
--- put in order, the prefixes of the leaves are the names that were split
+-- In order, the prefixes of the leaves are the names that were split.
 ordered : (w : ℕ) → IsWidth w → (roots leaves inner : List (List Bool)) → Forest w roots leaves inner → (names : List (List Bool)) → IsReady w names roots
     → with_names names (flat_map (prefixes_by w) leaves) ≡ names ++ inner
 ordered w width _ _ _ none names ready = sym (append-nil names)
@@ -199,7 +199,7 @@ module _ (w : ℕ) (width : IsWidth w) (leaves : List (List Bool)) where
   inner_names-forest inner f =
       ordered w width ([] ∷ []) leaves inner f [] (record { rising = tt; before = (tt, tt); parted = (tt, tt); among = (tt, tt); aligned = (zero_aligned, tt) })
 
-  -- the inner names, from leaf to leaf
+  -- The inner names, from leaf to leaf.
   pub inner_names-walked : ComesBySplits w leaves → AreShort leaves → inner_names w leaves ≡ all_new_names w leaves
   inner_names-walked by short =
       let (inner, f) = forest_of w leaves by in

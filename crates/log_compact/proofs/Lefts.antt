@@ -1,4 +1,4 @@
--- The names that are left while the leaves are walked.
+-- The names that are left during a walk over the leaves.
 use Rattle.std.proofs.Common.{◌≡◌, ℕ, zero, suc, ◌+◌, ◌-◌, ◌%◌, ◌^◌, ◌<◌, ◌≤◌, Bool, true, false, ◌&&◌, ◌==◌, List, [], ◌∷◌, length, map, take, drop, get_or, cond, refl, sym, ◌∙◌, ap, arith, length-take}
 use Rattle.std.specs.List.{filter}
 use Rattle.std.proofs.lemmas.Bool.{eq-eqb, ne_eqb}
@@ -26,7 +26,7 @@ get_or-proper_prefixes (b ∷ name) zero lt = refl
 get_or-proper_prefixes (b ∷ name) (suc k) lt =
     get_or-map_bit b (proper_prefixes name) k (omega (arith, lt, length-proper_prefixes name)) ∙ ap (λ (l : List Bool). b ∷ l) (get_or-proper_prefixes name k (omega (arith, lt)))
 
--- the prefix of so many bits is the next, if it is one of the names
+-- The prefix of `k` bits is the next name, if it is one of the names.
 pub left_at-next : (w : ℕ) (leaf : List Bool) (k : ℕ) → k < length leaf
     → left_at w leaf k ≡ cond (is_first w leaf (take k leaf)) (take k leaf ∷ left_at w leaf (k + 1)) (left_at w leaf (k + 1))
 left_at-next w leaf k lt =
@@ -37,7 +37,7 @@ left_at-next w leaf k lt =
 pub left_at-none : (w : ℕ) (leaf : List Bool) (k : ℕ) → length leaf ≤ k → left_at w leaf k ≡ []
 left_at-none w leaf k le = ap (filter (is_first w leaf)) (drop_all k (proper_prefixes leaf) (omega (arith, le, length-proper_prefixes leaf)))
 
--- the first bits of a name's first key are those of the name
+-- The first bits of a name's first key are those of the name.
 key_again : (name : List Bool) → length name ≤ 64 → take (length name) (key_bits (first_key name)) ≡ name
 unfolding key_bits first_key
 key_again name le =
@@ -48,7 +48,7 @@ pub first_bits-again : (name : List Bool) (k : ℕ) → length name ≤ 64 → k
 first_bits-again name k short le =
     sym (take-take k (length name) (key_bits (first_key name)) le) ∙ ap (take k) (key_again name short)
 
--- the tests of a prefix
+-- The tests of a prefix.
 module _ (w : ℕ) (leaf name : List Bool) (k : ℕ) (short : length leaf ≤ 64) (lt : k < length leaf) (is : name ≡ take k (key_bits (first_key leaf))) where
   name-is : name ≡ take k leaf
   name-is = is ∙ first_bits-again leaf k short (omega (arith, lt))
@@ -65,13 +65,13 @@ module _ (w : ℕ) (leaf name : List Bool) (k : ℕ) (short : length leaf ≤ 64
   aligned : (b : Bool) → (k % w == 0) ≡ b → is_first w leaf name ≡ (b && (first_key name == first_key leaf))
   aligned b e = ap (λ n. (n % w == 0) && (first_key name == first_key leaf)) long ∙ ap (λ t. t && (first_key name == first_key leaf)) e
 
-  -- it is one of the names
+  -- The prefix is one of the names.
   pub is-next : k % w ≡ 0 → first_key name ≡ first_key leaf → left_at w leaf k ≡ name ∷ left_at w leaf (length name + 1)
   is-next at same =
       chosen true (aligned true (eq-eqb (k % w) 0 at) ∙ eq-eqb (first_key name) (first_key leaf) same)
       ∙ ap (λ n. name ∷ left_at w leaf (n + 1)) (sym long)
 
-  -- it isn't, by its length or by its key
+  -- The prefix isn't one of the names, because of its length or its key.
   pub not-aligned : (k % w ≡ 0 → ⊥) → left_at w leaf k ≡ left_at w leaf (k + 1)
   not-aligned off = chosen false (aligned false (ne_eqb (k % w) 0 off))
 

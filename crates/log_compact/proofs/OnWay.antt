@@ -1,4 +1,4 @@
--- What a crash leaves on the way from a small file to a log of all cells.
+-- What a crash leaves between a small file and a log of all cells.
 use Rattle.std.proofs.Common.{◌≡◌, inl, inr, ℕ, ◌≤◌, List, [], ◌∷◌, length, Option, Some, is_some, refl, sym, ◌∙◌, ap, subst, arith, length-append, ◌⊎◌}
 use Rattle.cell_format.specs.declared.cell.Cell.{Cell}
 use Rattle.cell_format.specs.Spelling.{newest}
@@ -27,14 +27,14 @@ by_holding : (w : ℕ) (cells : List Cell) → IsLegalCells w cells → (c : Lis
 by_holding w cells legal c (inl none) = inr (inl (recovers w [] c none refl, index_version newest w [] c none))
 by_holding w cells legal c (inr all) = inr (inr (recovers w cells c all legal, index_version newest w cells c all))
 
--- small at first, and then a log of none of the cells, or of all
+-- A small file at first, and then a log of none of the cells, or of all.
 module _ (w : ℕ) (cells : List Cell) (legal : IsLegalCells w cells) (old mid new : Drive) where
   small-then : LeavesOnly old mid IsSmall → LeavesOnly mid new (HoldsAllOrNone w [] cells) → LeavesOnly old new (IsOnWay w cells)
   small-then first second =
       joined old mid new IsSmall (HoldsAllOrNone w [] cells) (IsOnWay w cells) (λ c small. inl small) (by_holding w cells legal) first second
 
   module _ (made : Makes w old mid) (kept : KeepsSmall old mid) (leaves : IsLog w [] mid → LeavesOnly mid new (HoldsAllOrNone w [] cells)) where
-    -- while the cells are written, and after that
+    -- While the cells are written, and after that.
     pub kept-on_way : mid.faults ≤ new.faults → SameFile mid new → KeepsOnWay w cells old new
     kept-on_way later file = record {
       on_way = λ bytes told small. small-then (kept.small small) (leaves (made.log bytes told).1);
@@ -55,22 +55,23 @@ module _ (w : ℕ) (cells : List Cell) (legal : IsLegalCells w cells) (old mid n
     calls = well-then old mid new (record { count = 2; calls = made.calls }) calls;
   }
 
-  -- the drive failed while the cells were written
-  pub failed-after : Makes w old mid → Rose mid.faults new.faults → EndsAtFault mid new → FailsToCompact old new
-  failed-after made rose ended = record {
+  -- The drive failed while the cells were written.
+  pub failed-after : Makes w old mid → is_some new.bytes ≡ is_some mid.bytes → Rose mid.faults new.faults → EndsAtFault mid new → FailsToCompact old new
+  failed-after made told_on rose ended = record {
     rose = subst (λ (n : ℕ). Rose n new.faults) made.same rose;
+    told = told_on ∙ made.told;
     calls = inr (ends-then old mid new (record { count = 2; calls = made.calls }) ended);
   }
 
--- the drive failed while the log of no cells was made
+-- The drive failed while the log of no cells was created.
 pub failed-making : (old new : Drive) → FailsToMake old new → FailsToCompact old new
-failed-making old new fails = record { rose = fails.rose; calls = by_case fails.calls }
+failed-making old new fails = record { rose = fails.rose; told = fails.told; calls = by_case fails.calls }
   where
     by_case : HasNoMore old.calls new.calls ⊎ ((went_well : ℕ) × StopsAfter 1 went_well old new) → StopsAtFault old new
     by_case (inl none) = inl (well-none old new none)
     by_case (inr (k, stops)) = inr (record { went_well = k; calls = stops.calls })
 
--- a log of no cells has 17 bytes
+-- A log of no cells has 17 bytes.
 pub made-empty : (w : ℕ) (old new : Drive) → Makes w old new → IsEmpty new
 made-empty w old new made xs told =
     let (bytes, before) = told_before old.bytes new.bytes xs made.told told in

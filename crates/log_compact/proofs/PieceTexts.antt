@@ -9,7 +9,7 @@ use Rattle.cell_format.specs.Spelling.{body_of, spelling}
 use Rattle.cell_format.proofs.Decoded.{length-spelling}
 use Rattle.split_log.specs.LogText.{behind_first}
 
--- behind the bytes of the first cell stands the set commit byte of the next one
+-- The set commit byte of the next cell follows the bytes of the first cell.
 pub behind_first-next : (cell next : Cell) (cells : List Cell) → behind_first (cell ∷ next ∷ cells) ≡ (body_of cell ++ 1 ∷ []) ++ behind_first (next ∷ cells)
 behind_first-next cell next cells =
     ap (λ (l : List ℕ). body_of cell ++ l) (append_assoc (spelling next) (flat_map spelling cells) (0 ∷ []))
@@ -18,7 +18,7 @@ behind_first-next cell next cells =
 length-part : (cell : Cell) (byte : ℕ) → length (body_of cell ++ byte ∷ []) ≡ 32
 length-part cell byte = omega (arith, length-append (body_of cell) (byte ∷ []), length-spelling cell)
 
--- a piece with one cell more
+-- A piece with one more cell.
 module _ (all piece new : List ℕ) (place : ℕ) (cell : Cell) (cells : List Cell) (long : length piece ≡ 65536) (within : place < 2048)
     (so_far : all ≡ take (32 * place) piece ++ behind_first (cell ∷ cells)) where
   taken : (byte n : ℕ) → new ≡ body_of cell ++ byte ∷ [] → n ≡ 32 * place + 32

@@ -1,4 +1,4 @@
--- The prefixes of a name, and of one that goes on from it.
+-- The prefixes of a name, and of its extensions.
 use Rattle.std.proofs.Common.{◌≡◌, inl, inr, ℕ, zero, suc, ◌+◌, ◌%◌, ◌<◌, ◌≤◌, Bool, true, false, ◌&&◌, ◌==◌, List, [], ◌∷◌, ◌++◌, length, map, cond, refl, sym, ◌∙◌, ap, subst, arith, length-append}
 use Rattle.std.proofs.lemmas.List.{append-nil, map-append, map-id}
 use Rattle.std.proofs.lemmas.List.Elements.{filter-append}
@@ -16,7 +16,7 @@ under_both : (a : Bool) (name : List Bool) (names : List (List Bool)) → map (�
 under_both a name [] = refl
 under_both a name (n ∷ names) = ap (λ (l : List (List Bool)). (a ∷ (name ++ n)) ∷ l) (under_both a name names)
 
--- the prefixes of a name that goes on from another
+-- The prefixes of an extension of a name.
 pub proper_prefixes-append : (name more : List Bool) → proper_prefixes (name ++ more) ≡ proper_prefixes name ++ map (λ p. name ++ p) (proper_prefixes more)
 proper_prefixes-append [] more = sym (map-id (proper_prefixes more))
 proper_prefixes-append (a ∷ name) more = ap (λ (l : List (List Bool)). [] ∷ l) (
@@ -25,11 +25,11 @@ proper_prefixes-append (a ∷ name) more = ap (λ (l : List (List Bool)). [] ∷
     ∙ ap (λ (l : List (List Bool)). map (λ p. a ∷ p) (proper_prefixes name) ++ l) (under_both a name (proper_prefixes more))
     )
 
--- whether a name may be split by w bits
+-- Whether a name may be split by `w` bits.
 abbrev pub is_aligned : ℕ → List Bool → Bool
 is_aligned w name = length name % w == 0
 
--- the prefixes behind a name, of one that goes on from it
+-- The prefixes of an extension that are longer than the name.
 abbrev pub later_prefixes : ℕ → List Bool → Bool → List Bool → List (List Bool)
 later_prefixes w name b more = filter (is_aligned w) (map (λ p. name ++ p) (map (λ p. b ∷ p) (proper_prefixes more)))
 
@@ -42,7 +42,7 @@ prefixes_by-append w name b more aligned =
     ∙ ap (λ (n : List Bool). prefixes_by w name ++ filter (is_aligned w) (n ∷ behind)) (append-nil name)
     ∙ ap (λ t. prefixes_by w name ++ cond t (name ∷ filter (is_aligned w) behind) (filter (is_aligned w) behind)) aligned
 
--- between a name and its child no name may be split
+-- No name between a name and its child may be split.
 later-none : (w : ℕ) → IsWidth w → (name : List Bool) (b : Bool) (more : List Bool) → is_aligned w name ≡ true → length (b ∷ more) ≡ w → later_prefixes w name b more ≡ []
 later-none w width name b [] aligned long = refl
 later-none w (inl one) name b (c ∷ more) aligned long = absurd (omega arith)
@@ -53,7 +53,7 @@ later-none w (inr both) name b (c ∷ []) aligned long =
     (ne_eqb (length (name ++ b ∷ []) % 2) 0 (λ e. absurd (omega (arith, e, length-append name (b ∷ []), even)))) in
     ap (λ t. cond t ((name ++ b ∷ []) ∷ []) []) odd
 
--- the prefixes of a child: those of the name, and the name
+-- The prefixes of a child: those of the name, and the name.
 pub prefixes_by-child : (w : ℕ) → IsWidth w → (name child : List Bool) → is_aligned w name ≡ true → IsChild w name child → prefixes_by w child ≡ prefixes_by w name ++ name ∷ []
 prefixes_by-child w width name child aligned c = of c.bits c.is c.long
   where
@@ -63,7 +63,7 @@ prefixes_by-child w width name child aligned c = of c.bits c.is c.long
         ap (prefixes_by w) is ∙ prefixes_by-append w name b more aligned
         ∙ ap (λ (l : List (List Bool)). prefixes_by w name ++ name ∷ l) (later-none w width name b more aligned long)
 
--- a child of a name that may be split may be split
+-- A child of a name that may be split may be split.
 pub aligned-child : (w : ℕ) → IsWidth w → (name child : List Bool) → is_aligned w name ≡ true → IsChild w name child → is_aligned w child ≡ true
 aligned-child w width name child aligned c =
     let long : length child ≡ length name + w = ap length c.is ∙ length-append name c.bits ∙ ap (λ n. length name + n) c.long in
@@ -74,7 +74,7 @@ aligned-child w width name child aligned c =
           let b : length child % 2 ≡ 0 = omega (arith, a, long, both) in subst (λ v. length child % v ≡ 0) (sym both) b
     ])
 
--- the number of a prefix is at most that of the name
+-- The number of a prefix is at most that of the name.
 all-map : (P Q : List Bool → Type 0) (f : List Bool → List Bool) → ((x : List Bool) → P x → Q (f x)) → (xs : List (List Bool)) → AllByRecursion P xs → AllByRecursion Q (map f xs)
 all-map P Q f g [] all = tt
 all-map P Q f g (x ∷ xs) all = (g x all.0, all-map P Q f g xs all.1)
@@ -116,7 +116,7 @@ both_kept p q (x ∷ xs) = by_test (p x) (both_kept p q xs)
 abbrev has_key : ℕ → List Bool → Bool
 has_key k name = first_key name == k
 
--- the names whose first leaf this is: the prefixes with its first key
+-- The names whose first leaf this is: the prefixes with its first key.
 new_names-prefixes : (w : ℕ) (leaf : List Bool) → new_names w leaf ≡ filter (has_key (first_key leaf)) (prefixes_by w leaf)
 new_names-prefixes w leaf = both_kept (is_aligned w) (has_key (first_key leaf)) (proper_prefixes leaf)
 
@@ -129,7 +129,7 @@ above_none k least lt [] all = tt
 above_none k least lt (n ∷ names) all = (ne_eqb (first_key n) k (λ e. absurd (omega (arith, e, lt, all.0))), above_none k least lt names all.1)
 
 module _ (w : ℕ) (width : IsWidth w) (name child : List Bool) (aligned : is_aligned w name ≡ true) (c : IsChild w name child) where
-  -- the first child of a name: what is new there is new at the name, and the name
+  -- The new names at the first child of a name: those at the name, and the name.
   pub new_names-first : first_key child ≡ first_key name → new_names w child ≡ new_names w name ++ name ∷ []
   new_names-first same =
       new_names-prefixes w child
@@ -138,7 +138,7 @@ module _ (w : ℕ) (width : IsWidth w) (name child : List Bool) (aligned : is_al
       ∙ filter-append (has_key (first_key name)) (prefixes_by w name) (name ∷ [])
       ∙ (λ i. sym (new_names-prefixes w name) i ++ cond (eq-eqb (first_key name) (first_key name) refl i) (name ∷ []) [])
 
-  -- at another child nothing is new
+  -- At another child nothing is new.
   pub new_names-other : first_key name < first_key child → new_names w child ≡ []
   new_names-other above =
       let k : ℕ = first_key child in

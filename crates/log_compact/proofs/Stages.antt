@@ -1,4 +1,4 @@
--- What a crash leaves while cells are written behind the commit byte of an empty log.
+-- What a crash leaves while cells are written after the commit byte of an empty log.
 use Rattle.std.proofs.Common.{◌≡◌, ℕ, ◌+◌, ◌*◌, ◌≤◌, List, [], ◌∷◌, ◌++◌, length, take, drop, Some, Option, Result, refl, sym, ◌∙◌, ap, arith, append_assoc, length-append, take-append-drop}
 use Rattle.std.proofs.lemmas.List.{append-nil, take_at, take_all, drop_all, take-take}
 use Rattle.std.specs.List.{flat_map}
@@ -18,11 +18,11 @@ use Rattle.split_log.proofs.Placing.{before_all}
 use Rattle.recovery.proofs.CallLemmas.{well-none, well-then}
 use Rattle.log_compact.specs.Staging.{AreCells, staged, IsStaging, IsEmpty}
 
--- an empty log has 17 bytes
+-- An empty log has 17 bytes.
 length-empty : (w : ℕ) (bytes : List ℕ) → IsLogText newest w [] bytes → length bytes ≡ 17
 length-empty w bytes text = omega (arith, ap length text.text, length-append (front_of newest w []) (text.commit_byte ∷ []), length-front_of newest w [])
 
--- a write behind the first commit byte leaves no cell, however it is torn
+-- A write after the first commit byte leaves no cell, however it is torn.
 torn-alone : (w at n : ℕ) (f c : List ℕ) → 17 ≤ at → HoldsCells newest w [] f → Torn at n f c → HoldsCells newest w [] c
 torn-alone w at n f c far holds torn =
     let long : length holds.front ≡ 17 = length-empty w holds.front holds.text in
@@ -31,7 +31,7 @@ torn-alone w at n f c far holds torn =
     let front : take 17 c ≡ holds.front = same ∙ ap (take 17) holds.parts ∙ take_at holds.front holds.rest 17 long in
     holds_front w [] holds.front (drop 17 c) c holds.text (sym (take-append-drop 17 c) ∙ ap (λ (l : List ℕ). l ++ drop 17 c) front)
 
--- a write at the end of a file
+-- A write at the end of a file.
 held-past : (xs piece c : List ℕ) (at : ℕ) → length xs ≡ at → Holds xs at piece c → c ≡ xs ++ piece
 held-past xs piece c at long holds =
     holds
@@ -39,12 +39,12 @@ held-past xs piece c at long holds =
     ∙ ap (λ (l : List ℕ). xs ++ piece ++ l) (drop_all (at + length piece) xs (omega (arith, long)))
     ∙ append-nil (xs ++ piece)
 
--- how many bytes stand behind the first commit byte
+-- The number of bytes after the first commit byte.
 pub length-behind_first : (cell : Cell) (cells : List Cell) → length (behind_first (cell ∷ cells)) ≡ 32 + 32 * length cells
 length-behind_first cell cells =
     omega (arith, length-append (body_of cell) (flat_map spelling cells ++ 0 ∷ []), length-append (flat_map spelling cells) (0 ∷ []), length-cells cells, length-spelling cell)
 
--- a stretch of writes, of which the last is torn or done
+-- A stretch of writes. The last one is torn or done.
 module _ (start now next : Drive) (laws : KeepsLaws now) (at : ℕ) (piece : List ℕ) (result : Result (Unit {0}) DiskFault) (far : 17 ≤ at) (writes : Writes now next at piece result) where
   pub still-alone : (w : ℕ) → LeavesOnly start now (HoldsCells newest w []) → LeavesOnly start next (HoldsCells newest w [])
   still-alone w alone =
@@ -68,7 +68,7 @@ module _ (start now next : Drive) (laws : KeepsLaws now) (at : ℕ) (piece : Lis
         let (zs, there, holds) = done xs before in
         omega (arith, ap length (some_same ys zs (sym told ∙ there) ∙ held-past xs piece zs at (whole xs before) holds), length-append xs piece, whole xs before)
 
-    -- a piece more was sent
+    -- One more piece was written.
     pub staging-more : (all rest left : List Cell) (staging : IsStaging all rest at start now) → behind_first rest ≡ piece ++ behind_first left → (AreCells left → AreCells rest) → next.faults ≡ now.faults
         → MadeWell 1 now next → SameFile now next
         → IsStaging all left (at + length piece) start next
@@ -86,7 +86,7 @@ module _ (start now next : Drive) (laws : KeepsLaws now) (at : ℕ) (piece : Lis
       file = λ seen told. staging.file seen (file seen told);
     }
 
--- before the first piece nothing was sent
+-- Before the first piece nothing was written.
 pub staging-none : (all : List Cell) (start : Drive) → KeepsLaws start → IsEmpty start → IsStaging all all 17 start start
 staging-none all start laws empty = record {
   sent = [];
@@ -102,7 +102,7 @@ staging-none all start laws empty = record {
   file = λ seen told. told;
 }
 
--- after the last one all was
+-- After the last piece everything was written.
 pub staged-all : (cell : Cell) (cells : List Cell) (at : ℕ) (start now : Drive) → KeepsLaws now → IsStaging (cell ∷ cells) [] at start now → (w : ℕ) → IsLog w [] start
     → IsUncommitted w 16 [] (cell ∷ cells) now
 staged-all cell cells at start now laws staging w log = record {

@@ -6,15 +6,15 @@ use Rattle.disk_trait.specs.Moments.{LeavesOnly}
 use Rattle.cell_format.specs.declared.cell.Cell.{Cell}
 use Rattle.split_log.specs.LogText.{IsLog, HoldsAllOrNone}
 
--- which calls clear a log of so many cells: none where it has none, and else a write, a sync, a cut and a sync
+-- The calls that clear a log of `count` cells: none if there are no cells, otherwise a write, a sync, a cut and a sync.
 abbrev pub CallsToClear : ℕ → Drive → Drive → Type 0
 CallsToClear count old new = ((count ≡ 0) × HasNoMore old.calls new.calls) ⊎ ((0 < count) × MadeWell 4 old new)
 
--- some of these four calls went well, the next one failed, and none was made behind it
+-- Up to three of these four calls went well, the next one failed, and no call follows it.
 abbrev pub StopsClearing : Drive → Drive → Type 0
 StopsClearing old new = (went_well : ℕ) × StopsAfter 3 went_well old new
 
--- A log of no cells was made of a log of so many, with nothing pending, and no device call failed.
+-- A log of `count` cells became a log of no cells. Nothing is pending, and no device call failed.
 pub record Clears (count : ℕ) (old new : Drive) : Type 0 where
   pub log : (w : ℕ) (cells : List Cell) → IsLog w cells old → IsLog w [] new
   pub synced : IsSynced new
@@ -23,13 +23,13 @@ pub record Clears (count : ℕ) (old new : Drive) : Type 0 where
   pub calls : CallsToClear count old new
   pub file : SameFile old new
 
--- The drive failed, and no call was made behind the one that did.
+-- The drive failed, and no call follows the one that failed.
 pub record FailsToClear (old new : Drive) : Type 0 where
   pub told : is_some new.bytes ≡ is_some old.bytes
   pub rose : Rose old.faults new.faults
   pub calls : StopsClearing old new
   pub file : SameFile old new
 
--- at each moment a crash leaves all cells that the log had, or none
+-- At each moment a crash leaves all cells that the log had, or none.
 abbrev pub KeepsOrClears : Drive → Drive → Type 0
 KeepsOrClears old new = (w : ℕ) (cells : List Cell) → IsLog w cells old → LeavesOnly old new (HoldsAllOrNone w [] cells)

@@ -1,4 +1,4 @@
--- Worked states, written anew.
+-- Worked examples of fresh logs.
 use Rattle.std.specs.Prelude.{◌≡◌, true, false, List, [], ◌∷◌, length, map}
 use Rattle.std.proofs.Common.{refl}
 use Rattle.zorder.specs.Examples.{pt}
@@ -14,7 +14,7 @@ use Rattle.plain_list.specs.State.{ComesBySplits}
 use Rattle.log_compact.specs.Walk.{new_names}
 use Rattle.log_compact.specs.State.{IsStateOf}
 
--- five puts, and the split of the whole space
+-- Five puts, and the split of the whole space.
 abbrev pub five : List Cell
 five =
     Put 1 (pt 0 0) 0
@@ -37,7 +37,7 @@ fresh_five-length : length (log_text newest 1 (fresh_of five) 0) ≡ 241
 unfolding header_text body_of first_key
 fresh_five-length = refl
 
--- a begin alone leaves nothing to be written
+-- A begin alone leaves nothing to write.
 fresh_begin : fresh_of (Begin 1 [] ∷ []) ≡ []
 fresh_begin = refl
 
@@ -45,22 +45,22 @@ fresh_begin-length : length (log_text newest 1 (fresh_of (Begin 1 [] ∷ [])) 0)
 unfolding header_text
 fresh_begin-length = refl
 
--- what was dropped or moved is written once, with its last moment
+-- An object that was moved is written once, with its last moment.
 fresh_moved : fresh_of (Put 7 (pt 3 5) 5 ∷ Move 7 (pt 4 5) 9 ∷ []) ≡ Put 7 (pt 4 5) 9 ∷ []
 fresh_moved = refl
 
--- a name comes before its extensions, and those of its zero half before the other half
+-- A name comes before its extensions. Those in its zero half come before those in the other half.
 inner_deep : inner_names 1 ((false ∷ false ∷ []) ∷ (false ∷ true ∷ false ∷ []) ∷ (false ∷ true ∷ true ∷ []) ∷ (true ∷ false ∷ []) ∷ (true ∷ true ∷ []) ∷ [])
     ≡ [] ∷ (false ∷ []) ∷ (false ∷ true ∷ []) ∷ (true ∷ []) ∷ []
 inner_deep = refl
 
--- each of them is met at the first leaf under it
+-- Each inner name comes at the first leaf under it.
 walked_deep : map (new_names 1) ((false ∷ false ∷ []) ∷ (false ∷ true ∷ false ∷ []) ∷ (false ∷ true ∷ true ∷ []) ∷ (true ∷ false ∷ []) ∷ (true ∷ true ∷ []) ∷ [])
     ≡ ([] ∷ (false ∷ []) ∷ []) ∷ ((false ∷ true ∷ []) ∷ []) ∷ [] ∷ ((true ∷ []) ∷ []) ∷ [] ∷ []
 unfolding first_key
 walked_deep = refl
 
--- by two bits at once
+-- The same for splits by two bits at once.
 inner_two : inner_names 2 ((false ∷ false ∷ []) ∷ (false ∷ true ∷ []) ∷ (true ∷ false ∷ []) ∷ (true ∷ true ∷ false ∷ false ∷ []) ∷ (true ∷ true ∷ false ∷ true ∷ []) ∷ (true ∷ true ∷ true ∷ false ∷ []) ∷ (true ∷ true ∷ true ∷ true ∷ []) ∷ [])
     ≡ [] ∷ (true ∷ true ∷ []) ∷ []
 inner_two = refl
@@ -68,7 +68,7 @@ inner_two = refl
 state_five : IsStateOf 1 (fresh_of five) (state_of 1 five).world (state_of 1 five).leaves
 state_five = record { legal = refl; world_is = refl; leaves_are = refl; at_rest = refl }
 
--- leaves that come by two splits, written anew
+-- The fresh log of leaves that two splits create.
 state_deep : IsStateOf 1 (fresh_cells 1 (obj 7 3 5 9 ∷ []) ((false ∷ false ∷ []) ∷ (false ∷ true ∷ []) ∷ (true ∷ []) ∷ [])) (obj 7 3 5 9 ∷ []) ((false ∷ false ∷ []) ∷ (false ∷ true ∷ []) ∷ (true ∷ []) ∷ [])
 state_deep = record { legal = refl; world_is = refl; leaves_are = refl; at_rest = refl }
 

@@ -1,4 +1,4 @@
--- Cells that are written behind the clear commit byte of an empty log.
+-- Cells that are written after the clear commit byte of an empty log.
 use Rattle.std.specs.Prelude.{◌≡◌, ℕ, ◌+◌, List, [], ◌∷◌, ◌++◌, length, Option, Some, None, is_some}
 use Rattle.std.specs.List.{AllByRecursion}
 use Rattle.cell_format.specs.declared.cell.Cell.{Cell}
@@ -8,7 +8,7 @@ use Rattle.disk_trait.specs.Moments.{LeavesOnly}
 use Rattle.split_log.specs.LogText.{front_of, behind_first, IsLog, HoldsCells}
 use Rattle.recovery.specs.Calls.{AllWentWell}
 
--- the cells that are left, with one that was taken already
+-- The cells that are left, with one that was removed already.
 abbrev pub and_taken : Option Cell → List Cell → List Cell
 and_taken None cells = []
 and_taken (Some cell) cells = cell ∷ cells
@@ -16,15 +16,16 @@ and_taken (Some cell) cells = cell ∷ cells
 abbrev pub AreCells : List Cell → Type 0
 AreCells cells = AllByRecursion (IsCell newest) cells
 
--- what an empty log is made by this tail behind its commit byte
+-- The bytes of an empty log with this commit byte, and this tail after it.
 abbrev pub staged : ℕ → ℕ → List ℕ → List ℕ
 staged w commit_byte tail = front_of newest w [] ++ commit_byte ∷ tail
 
--- a file of 17 bytes, where its content is known
+-- A file of 17 bytes, if its content is known.
 abbrev pub IsEmpty : Drive → Type 0
 IsEmpty drive = (xs : List ℕ) → drive.bytes ≡ Some xs → length xs ≡ 17
 
--- The cells but for the rest were written behind the commit byte of an empty log, as far as this place, and a crash leaves none of them.
+-- All cells except the rest were written after the commit byte of an empty log, up to the place `at`. A crash leaves
+-- none of them.
 pub record IsStaging (all rest : List Cell) (at : ℕ) (start now : Drive) : Type 0 where
   pub sent : List ℕ
   pub parts : behind_first all ≡ sent ++ behind_first rest

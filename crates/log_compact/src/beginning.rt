@@ -17,8 +17,8 @@ use recovery::{Leaves, NEWEST, Opened, Seen};
 use split_log::{MOST_CELLS, SplitLog};
 use std::snapshot::Snapshot;
 
-/// What whoever opens the log finds that `compact` writes of a world and its leaves. There is none where these are more cells than a log
-/// may have.
+/// What an opening finds in the log that `compact` writes of a world and its leaves. The result is `None` if that log
+/// would have more cells than a log may have (`split_log::MOST_CELLS`).
 pub fn fresh_seen(world: World, leaves: Leaves, width: u8) -> Option<Seen>
     requires width { IsWidth width }
     requires splits { ComesBySplits width leaves }
@@ -46,7 +46,8 @@ pub fn fresh_seen(world: World, leaves: Leaves, width: u8) -> Option<Seen>
     Some(seen)
 }
 
-/// Writes it on a target that has at most 17 bytes, as `compact` does, and hands out the log as if it was opened there.
+/// Writes this log on a target that has at most 17 bytes, as `compact` does. It returns the log as if it were opened
+/// there.
 pub fn begin_log<D: LogDisk>(
     seen: Seen,
     width: u8,

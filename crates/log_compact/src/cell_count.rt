@@ -1,4 +1,4 @@
-//! How many cells a fresh log has.
+//! The number of cells of a fresh log.
 ghost use Rattle.std.specs.Prelude.{◌≡◌, ◌⊎◌, ◌<◌, ◌^◌, length};
 ghost use Rattle.zorder.specs.Width.{IsWidth};
 ghost use Rattle.log_compact.specs.Fresh.{fresh_cells};
@@ -7,7 +7,7 @@ ghost use Rattle.plain_list.specs.State.{ComesBySplits};
 use crate::cells::FreshCells;
 use recovery::Seen;
 
-/// How many cells `compact` writes. It takes no memory.
+/// The number of cells that `compact` writes. It takes no memory.
 pub fn count_fresh(seen: &Seen, width: u8) -> u64
     requires width { IsWidth width }
     requires splits { ComesBySplits width seen.now.leaves }

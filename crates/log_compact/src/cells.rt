@@ -12,12 +12,12 @@ use plain_list::Member;
 use recovery::Seen;
 use std::marker::Model;
 
-/// An iterator over the cells of a fresh log, made from what was found in another one as they are asked for. Contracts see it as the cells that
-/// are left.
+/// An iterator over the cells of a fresh log. It computes each cell when the caller needs it. Contracts see it as the
+/// cells that are left.
 #[derive(Drop)]
 pub(crate) struct FreshCells<'a> {
     names: InnerNames<'a>,
-    // How many splits were begun, and whether the last of them is to be installed.
+    // The number of splits that were begun, and whether the last of them is to be installed next.
     begun: u64,
     due: bool,
     members: &'a [Member],
@@ -65,7 +65,7 @@ impl<'a> Iterator for FreshCells<'a> {
 
     ghost remaining = { item_count (λ left. left) };
 
-    // A split is begun and installed at once, before those under it, and the objects come last.
+    // A split is begun and installed at once, before the splits under it. The objects come last.
     fn next(&mut self) -> Option<Cell> {
         if self.due {
             self.due = false;

@@ -1,4 +1,4 @@
-//! Makes a log one of no cells.
+//! Removes all cells of a log.
 ghost use Rattle.std.specs.Prelude.{◌≡◌, ◌≢◌, ℕ, List, [], None, Ok, OnOk, OnErr, IfOk, IfErr, MatchResult, is_some};
 ghost use Rattle.disk_trait.specs.Drive.{CountsFaults, IsSynced, IsWithin, MadeWell};
 ghost use Rattle.disk_trait.specs.Moments.{LeavesOnly};
@@ -10,14 +10,15 @@ use crate::staging::FIRST;
 use disk_trait::{DiskFault, LogDisk};
 use split_log::SplitLog;
 
-/// The drive back, which failed while its log was cleared.
+/// The drive, returned. It failed while its log was cleared.
 #[derive(Drop)]
 pub struct NotCleared<D: Drop> {
     pub disk: D,
 }
 
-/// Makes a log one of no cells, with 17 bytes. Where it has none nothing is done, and else there are four device calls: its first commit
-/// byte is cleared, and then what stands behind that is cut off, each followed by a sync. None is made after one that failed.
+/// Removes all cells of a log, so that its file has 17 bytes. A log of no cells takes no device call. Otherwise there
+/// are four: the first commit byte is cleared, then what follows it is cut off, and a sync follows each. No device call
+/// follows one that failed.
 pub fn clear_log<D: LogDisk>(log: SplitLog<D>) -> Result<D, NotCleared<D>>
     requires whole { log.failed ≡ None }
 
@@ -38,7 +39,7 @@ pub fn clear_log<D: LogDisk>(log: SplitLog<D>) -> Result<D, NotCleared<D>>
     }
 }
 
-/// The same of a log that has cells.
+/// The same for a log that has cells.
 fn clear<D: LogDisk>(disk: &mut D) -> Result<(), DiskFault>
     requires within { IsWithin (D.drive disk.old) 17 }
 
@@ -52,7 +53,7 @@ fn clear<D: LogDisk>(disk: &mut D) -> Result<(), DiskFault>
     ensures cause { CountsFaults (D.drive disk.old) (D.drive disk.new) result }
 {
     disk.write(FIRST, &[0])?;
-    // Synced before the cut: while a crash may leave the commit byte set, the cells behind it stay whole.
+    // Sync before the cut. While a crash may leave the commit byte set, the cells after it must stay whole.
     disk.sync()?;
     disk.cut(FIRST + 1)?;
     disk.sync()?;

@@ -1,4 +1,4 @@
-//! Writes the state of a log anew.
+//! Writes the state of a log as a fresh log.
 ghost use Rattle.std.specs.Prelude.{◌≡◌, ◌⊎◌, ◌≤◌, length, IfOk, IfErr, MatchResult};
 ghost use Rattle.zorder.specs.Width.{IsWidth};
 ghost use Rattle.split_log.specs.LogView.{most_cells};
@@ -16,14 +16,14 @@ use thiserror::Error;
 /// Why no log was written.
 #[derive(Clone, Copy, Debug, PartialEq, Eq, Error)]
 pub enum CompactFault {
-    /// The target has more than 17 bytes, this many. Nothing was written.
+    /// The target has `len` bytes, which is more than 17. Nothing was written.
     #[error("the file has {len} bytes")]
     InUse { len: u64 },
     #[error("the drive failed")]
     Disk,
 }
 
-/// The target back, and why no log was written on it.
+/// The target, returned, and why no log was written on it.
 #[derive(Drop)]
 pub struct CompactRefused<D: Drop> {
     pub disk: D,
@@ -43,8 +43,9 @@ impl From<InitFault> for CompactFault {
     }
 }
 
-/// Writes the state that was found in a log, of splits that make `2 ^ width` children, on a target that has at most 17 bytes. It takes no memory,
-/// and writes pieces of at most 64 KiB. A crash within it may leave a log of no cells with more than 17 bytes, which the next call finds in use.
+/// Writes the state that was found in a log on a target that has at most 17 bytes. The splits of both logs create `2 ^
+/// width` children. The call takes no memory, and writes pieces of at most 64 KiB. A crash during the call may leave a
+/// log of no cells with more than 17 bytes. The next call then returns `InUse`.
 pub fn compact<D: LogDisk>(seen: &Seen, width: u8, target: D) -> Result<D, CompactRefused<D>>
     requires width { IsWidth width }
     requires splits { ComesBySplits width seen.now.leaves }

@@ -11,7 +11,7 @@ ghost use Rattle.log_compact.specs.Walk.{AreShort};
 use recovery::Seen;
 use zorder::Name;
 
-/// What was found in a log may be written anew, with no more cells than that log has.
+/// The state of a log may be written as a fresh log, with no more cells than the log has.
 pub fn fresh_cells_are_few(seen: &Seen, width: u8)
     requires { IsWidth width }
 

@@ -5,8 +5,8 @@ ghost use Rattle.log_compact.specs.Walk.{left_at, names_left, all_new_names};
 use std::marker::Model;
 use zorder::{Name, first_bits};
 
-/// An iterator over the inner names of leaves: each comes at the first leaf under it, so that it needs no memory. Contracts see it as the names
-/// that are left.
+/// An iterator over the inner names of leaves. Each name comes at the first leaf under it, so the iterator needs no
+/// memory. Contracts see it as the names that are left.
 #[derive(Drop)]
 pub(crate) struct InnerNames<'a> {
     width: u8,
@@ -63,7 +63,7 @@ impl<'a> Iterator for InnerNames<'a> {
     }
 }
 
-// The first of the names that are left, and the leaves from the one on at which it comes.
+// The first of the names that are left, and the leaves from its own first leaf on.
 fn next_name<'a>(leaves: &'a [Name], least: u8, width: u8) -> Option<(Name, &'a [Name])>
     requires { 0 < width }
     ensures { MatchOption result (names_left width leaves.now least ≡ [])
@@ -81,7 +81,7 @@ fn next_name<'a>(leaves: &'a [Name], least: u8, width: u8) -> Option<(Name, &'a 
     None
 }
 
-// The first of those of so many bits that come at a leaf.
+// The first name that comes at this leaf and has at least `least` bits.
 fn next_at(leaf: &Name, least: u8, width: u8) -> Option<Name>
     requires { 0 < width }
     ensures { MatchOption result (left_at width leaf.now least ≡ [])

@@ -7,7 +7,7 @@ ghost use Rattle.log_compact.specs.Staging.{and_taken, AreCells};
 use crate::cells::FreshCells;
 use cell_format::{Cell, encode};
 
-/// The bytes of a cell.
+/// The length of a cell in bytes, with its commit byte.
 const CELL: usize = 32;
 
 /// The most cells of a piece.
@@ -16,8 +16,9 @@ const MOST: usize = 2048;
 /// The most bytes of a piece.
 pub(crate) const PIECE: usize = CELL * MOST;
 
-/// Fills a piece with a cell and those after it, as many as have room: of each what stands behind its commit byte, and the commit byte of the
-/// one after it, which is set, or clear where none is left. Gives the number of bytes, and the first cell that had no room.
+/// Fills a piece with a cell and the cells after it, as many as have room. For each cell the piece has the bytes after
+/// its commit byte, and then the commit byte of the next cell. That byte is set, or clear if no cell is left. Returns
+/// the number of bytes, and the first cell that had no room.
 pub(crate) fn fill(
     piece: &mut [u8; PIECE],
     first: Cell,
@@ -45,7 +46,7 @@ pub(crate) fn fill(
     (PIECE, Some(cell))
 }
 
-/// A cell without its commit byte, and this one for the cell after it.
+/// The bytes of a cell after its commit byte, and this commit byte for the next cell.
 fn behind(cell: &Cell, commit_byte: u8) -> [u8; 32]
     ensures bytes { result ≡ body_of cell.now ++ commit_byte ∷ [] }
     ensures fits { IsCell newest cell.now }

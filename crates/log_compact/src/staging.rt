@@ -1,4 +1,4 @@
-//! Writes cells behind the clear commit byte of an empty log, and sets that byte at last.
+//! Writes cells after the clear commit byte of an empty log, and sets that byte at the end.
 ghost use Rattle.std.specs.Prelude.{◌≡◌, ◌<◌, ◌≤◌, ◌∷◌, [], ℕ, OnOk, OnErr, is_some, length};
 ghost use Rattle.disk_trait.specs.Drive.{CountsFaults, IsWithin};
 ghost use Rattle.disk_trait.specs.Moments.{LeavesOnly};
@@ -15,10 +15,10 @@ use cell_format::Cell;
 use disk_trait::{DiskFault, LogDisk};
 use split_log::commit;
 
-/// Where the first commit byte stands in a log.
+/// The place of the first commit byte in a log.
 pub(crate) const FIRST: u64 = 16;
 
-/// Writes cells over an empty log: a crash leaves none of them, or all.
+/// Writes cells over an empty log. A crash leaves none of them, or all.
 pub(crate) fn write_cells<D: LogDisk>(disk: &mut D, mut cells: FreshCells) -> Result<(), DiskFault>
     requires empty { IsEmpty (D.drive disk.old) }
     requires few { length cells ≤ most_cells }
@@ -38,7 +38,7 @@ pub(crate) fn write_cells<D: LogDisk>(disk: &mut D, mut cells: FreshCells) -> Re
     commit(disk, FIRST)
 }
 
-/// Writes a cell and those after it behind the first commit byte, which stays clear.
+/// Writes a cell and the cells after it, following the first commit byte, which stays clear.
 fn stage<D: LogDisk>(disk: &mut D, first: Cell, mut cells: FreshCells) -> Result<(), DiskFault>
     requires empty { IsEmpty (D.drive disk.old) }
     requires few { length cells < most_cells }

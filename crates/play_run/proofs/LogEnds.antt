@@ -139,6 +139,14 @@ calm-book {D = D} drive file old w size b h disk opens leaves none =
     let kept = kept-since drive w b.opening h opens.log disk b.log opens.log_is leaves in
     subst (λ (d : D). (drive d).faults ≡ old.faults) kept.disk_is (kept.keeps.calm none ∙ kept.like.calm ∙ opens.calm)
 
+-- its bytes are still known where they were
+told-book : {D : Type 0} (drive : D → Drive) (file : List ℕ) (old : Drive) (w size : ℕ) (b : BookView D) (h : List Entry) (disk : D) → OpensBook drive file old w size b → LeavesLog drive w b.opening h b.log (Some disk)
+    → is_some (drive disk).bytes ≡ is_some old.bytes
+told-book {D = D} drive file old w size b h disk opens leaves =
+    let kept = kept-since drive w b.opening h opens.log disk b.log opens.log_is leaves in
+    subst (λ (d : D). is_some (drive d).bytes ≡ is_some old.bytes) kept.disk_is
+    (kept.keeps.told ∙ ap is_some (kept.like.stays.bytes ∙ opens.stays.bytes))
+
 -- the file stays attached
 attached-book : {D : Type 0} (drive : D → Drive) (file : List ℕ) (old : Drive) (w size : ℕ) (b : BookView D) (h : List Entry) (disk : D) → OpensBook drive file old w size b → LeavesLog drive w b.opening h b.log (Some disk)
     → AttachedOne file false old (drive disk)
@@ -179,6 +187,7 @@ answered-over drive report file w size rows b was disk other before after status
   crash = keeps-book drive file (IsNextStep w b.opening rows) (drive was) w size b h disk status before after opens ended.log ended.ends (λ writes. (ended.splits writes).going);
   text = (text-book drive file (IsNextStep w b.opening rows) (drive was) w size b h disk status before after opens ended.log ended.ends (λ writes. (ended.splits writes).going)).0;
   calls = (text-book drive file (IsNextStep w b.opening rows) (drive was) w size b h disk status before after opens ended.log ended.ends (λ writes. (ended.splits writes).going)).1;
+  told = told-book drive file (drive was) w size b h disk opens ended.log;
   calm = λ other. calm-book drive file (drive was) w size b h disk opens ended.log (unfailed (IsNextStep w b.opening rows) h status before after ended.ends (λ writes. (ended.splits writes).going) other);
   attached = attached-book drive file (drive was) w size b h disk opens ended.log;
 }
@@ -198,6 +207,7 @@ answered-new {D = D} drive report size rows b drives left before after status h 
   limits = moved (λ v n s first. IsWithinLimits v n s first rows h) 1 1 b.bucket size b.opening empty_state (first_in b.log) None refl bucket opening (ap (λ (l : Option (KeptView D)). first_in l) none) ended.limits;
   crash = λ bytes first told is settled. absurd (cc is);
   text = λ bytes first told is whole. absurd (cc is);
+  told = refl;
   calls = inl (well-none (drive drives.disk) (drive drives.disk) (λ all told. told));
   calm = λ other. refl;
   attached = tt;

@@ -1,5 +1,5 @@
 -- The command `play`, and what happens to rows that are played.
-use Rattle.std.specs.Prelude.{◌≡◌, ◌≢◌, ◌⊎◌, ℕ, ◌+◌, ◌≤◌, false, List, [], length, slice_index, Option, Some, None, Ok, Err, ⊤}
+use Rattle.std.specs.Prelude.{◌≡◌, ◌≢◌, ◌⊎◌, ℕ, ◌+◌, ◌≤◌, false, List, [], length, slice_index, Option, Some, None, is_some, Ok, Err, ⊤}
 use Rattle.std.specs.Option.{option_map}
 use Rattle.causes.specs.Causes.{Rose}
 use Rattle.disk_trait.specs.Drive.{Drive, AttachedOne}
@@ -65,6 +65,8 @@ pub record IsNotOpened (file : List ℕ) (old new : Drive) (why : Refusal) : Typ
   -- unless the drive failed, a log that stood on it still does; each crash image keeps the newest version
   pub stands : why ≢ refusal.Disk None → (w : ℕ) (cells : List Cell) → HoldsLog w cells old → HoldsLog w cells new
   pub newest : KeepsNewest old new
+  -- bytes that were known still are
+  pub told : is_some new.bytes ≡ is_some old.bytes
   -- the fault count is unchanged, unless the refusal says that the drive failed
   pub calm : why ≢ refusal.Disk None → new.faults ≡ old.faults
   pub calls : StopsAtFault old new
@@ -132,6 +134,8 @@ pub record IsAnswered {D : Type 0} (report : Report) (log : Option (List ℕ)) (
   pub crash : KeepsPlayed from old.drive new.drive status h
   -- unless the drive stopped the run, the log has exactly the first records and the history's
   pub text : KeepsText from old.drive new.drive status h
+  -- bytes that were known still are, with any status
+  pub told : is_some new.drive.bytes ≡ is_some old.drive.bytes
   -- no device call was made after one that failed
   pub calls : StopsAtFault old.drive new.drive
   -- the drive's fault count rises only with status 7

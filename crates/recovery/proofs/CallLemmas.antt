@@ -1,4 +1,4 @@
--- Device calls up to the first that failed, one stretch behind the other, and those of an opening.
+-- Device calls up to the first one that failed: one stretch after the other, and those of an opening.
 use Rattle.std.proofs.Common.{◌⊎◌, inl, inr, ℕ, ◌+◌, Bool, true, false, List, [], ◌∷◌, ◌++◌, replicate, sym, ◌∙◌, ap, subst, append_assoc}
 use Rattle.std.proofs.lemmas.List.{append-nil, replicate-append-replicate}
 use Rattle.disk_trait.specs.Drive.{Drive, HasNoMore, Made, MadeWell, StopsAfter}
@@ -7,11 +7,11 @@ use Rattle.recovery.specs.Calls.{AllWentWell, EndsAtFault, StopsAtFault}
 use Rattle.recovery.specs.Opening.{CallsRefused, CallsToOpen}
 use Rattle.recovery.specs.declared.seen.OpenFault.{OpenFault}
 
--- no call
+-- No call.
 pub well-none : (old new : Drive) → HasNoMore old.calls new.calls → AllWentWell old new
 well-none old new none = record { count = 0; calls = λ all told. (all, none all told, sym (append-nil all)) }
 
--- more calls behind calls that went well
+-- More calls after calls that went well.
 module _ (old mid new : Drive) (first : AllWentWell old mid) where
   pub well-then : AllWentWell mid new → AllWentWell old new
   well-then last = record {
@@ -33,7 +33,7 @@ module _ (old mid new : Drive) (first : AllWentWell old mid) where
   stops-then (inl well) = inl (well-then well)
   stops-then (inr failed) = inr (ends-then failed)
 
--- the calls of an opening, and of one that was refused
+-- The calls of an opening, and of one that was refused.
 pub well-opened : (cells : ℕ) (old new : Drive) → CallsToOpen cells old new → AllWentWell old new
 well-opened cells old new (inl alone) = record { count = 1; calls = alone.1 }
 well-opened cells old new (inr more) = record { count = 3; calls = more.1 }

@@ -1,4 +1,4 @@
--- What a cell makes of a state: the place of its object, how much longer the lists are, and what puts an object back.
+-- What a cell does to a state: the position of its object, the growth of the lists, and how an object is put back.
 use Rattle.std.proofs.Common.{◌≡◌, ℕ, ◌+◌, ◌≤◌, Bool, true, false, cond, not, inl, inr, List, [], ◌∷◌, ◌++◌, length, Option, Some, None, refl, sym, ◌∙◌, ap, subst, arith, length-append}
 use Rattle.std.specs.Prelude.{◌==◌, ◌<◌, Err}
 use Rattle.std.specs.List.{filter}
@@ -31,7 +31,7 @@ use Rattle.recovery.specs.Replay.{Steps}
 use Rattle.recovery.specs.Room.{HasRoomAfter}
 use Rattle.recovery.specs.Walked.{object_of, place_in}
 
--- an object that was moved stands where it did
+-- A moved object keeps its place in the list.
 above_before : (a id : ℕ) (to : Stamped) (ms : World) → IsAbove a (places_of (with_moved id to ms)) → IsAbove a (places_of ms)
 above_before a id to [] above = tt
 above_before a id to (m ∷ ms) above = elim (cases_Bool (m.id == id)) [
@@ -81,7 +81,7 @@ position_of-with_moved id to kept (m ∷ ms) found =
 itself : (id : ℕ) → (id == id) ≡ true
 itself id = eq-eqb id id refl
 
--- the world after a change
+-- The world after a change.
 after_change : (world : World) (o : Op) → is_change (answer_of world o) ≡ true → after_of world o ≡ changed world o
 after_change world o e = ap (λ b. cond b (changed world o) world) e
 
@@ -93,7 +93,7 @@ moved_some : (moment : ℕ) (found : Option Stamped) → is_change (option_map_o
 moved_some moment None e = absurd (true≢false (sym e))
 moved_some moment (Some kept) e = (kept, refl)
 
--- where the object of a cell is after it
+-- The position of a cell's object after the cell.
 pub placed_after : (w : ℕ) (s : State) (c : Cell) → is_possible_cell w s c ≡ true → place_in (step w s (entry_of c)).world (object_of c) ≡ place_after c
 placed_after w s (cell.Put id at moment) possible =
     let none = put_none (position_of s.world id) (is_full s.world) possible in
@@ -120,7 +120,7 @@ no_longer : {A : Type 0} (p : A → Bool) (xs : List A) → length (filter p xs)
 no_longer p [] = omega arith
 no_longer p (x ∷ xs) = omega (arith, filter_if (p x) x (filter p xs), no_longer p xs)
 
--- a change makes a world longer by one object at most
+-- A change makes a world longer by at most one object.
 changed_longer : (b : Bool) (world new : World) → length new ≤ length world + 1 → length (cond b new world) ≤ length world + 1
 changed_longer true world new le = le
 changed_longer false world new le = omega arith
@@ -141,7 +141,7 @@ installed_longer : (w : ℕ) (name : Option (List Bool)) → IsWidth w → (leav
 installed_longer w None known leaves = omega arith
 installed_longer w (Some name) known leaves = split_longer w name known leaves
 
--- how much longer the lists of a state are after a cell
+-- How much longer the lists of a state are after a cell.
 pub grows : (w : ℕ) (s : State) (c : Cell) → IsWidth w → HasRoomAfter s (step w s (entry_of c))
 grows w s (cell.Put id at moment) known = record {
   members = changed_longer (is_change (answer_of s.world (op.Put id at moment))) s.world (changed s.world (op.Put id at moment)) (omega (arith, length-with_member (record { id = id; at = at; moment = moment }) s.world));
@@ -159,7 +159,7 @@ grows w s (cell.Begin number name) known = record { members = omega arith; leave
 grows w s (cell.Install number) known = record { members = omega arith; leaves = installed_longer w (split_name s.splits number) known s.leaves }
 grows w s (cell.Abandon number) known = record { members = omega arith; leaves = omega arith }
 
--- steps that aren't possible, and leave everything
+-- Steps that aren't possible leave everything unchanged.
 pub refuses_put : (w : ℕ) (s : State) (id : ℕ) (to old : Stamped) (new back : World) → IsWorld new → Some old ≡ position_of s.world id → new ≡ with_moved id to s.world → back ≡ with_moved id old new
     → Steps w s (record s { world = back }) (cell.Put id to.at to.moment) (Err Impossible)
 refuses_put w s id to old new back is found moved again =

@@ -1,4 +1,4 @@
--- Bytes tell one thing at most: the cells that they recover to, or one fault.
+-- Bytes show at most one result: the cells that they recover to, or one fault.
 use Rattle.std.proofs.Common.{◌≡◌, ℕ, ◌+◌, ◌<◌, ◌≤◌, true, false, ◌⊎◌, inl, inr, ⊎_elim, Some, List, [], ◌∷◌, ◌++◌, length, take, drop, refl, sym, ◌∙◌, ap, subst, arith, append_assoc, length-append}
 use Rattle.std.specs.Prelude.{slice_index, Result, Ok, Err}
 use Rattle.std.specs.Result.{IsErrAnd}
@@ -29,7 +29,7 @@ use Rattle.recovery.specs.Headers.{HasHeader}
 use Rattle.recovery.proofs.HeadLemmas.{header_bytes, header_is_log, index_version}
 use Rattle.recovery.proofs.ReadingLemmas.{behind_cells, set_some}
 
--- one list of cells goes on with this cell where the other ends
+-- One list of cells continues with this cell, at the point where the other list ends.
 pub record Longer (v w : ℕ) (s : State) (first second : List Cell) (tail rest : List ℕ) : Type 0 where
   pub next : Cell
   pub more : List Cell
@@ -83,7 +83,7 @@ compared v w s (c ∷ first) (d ∷ second) tail rest af bf al bl e =
     subst (λ x. Compared v w s (c ∷ first) (x ∷ second) tail rest) one
     (compared_more v w s c first second tail rest (compared v w (step w s (entry_of c)) first second tail rest af.1 bf.1 (second_so (is_possible_cell w s c) (is_legal_cells w (step w s (entry_of c)) first) al) legal tails))
 
--- where a reading ends: no possible cell that would be read stands behind the cells
+-- The end of a reading: no possible cell that would be read follows the cells.
 pub record IsEnd (v w most : ℕ) (cells : List Cell) (tail bytes : List ℕ) : Type 0 where
   pub begins : BeginsWith v w cells tail bytes
   pub some : 1 ≤ length tail
@@ -95,14 +95,14 @@ no_longer v w most first second tail rest bytes a b l =
     a.stuck l.next (flat_map spelling l.more ++ rest) l.fits l.tail_is (omega (arith, b.some, length-append (flat_map spelling l.more) rest)) l.possible
     (omega (arith, ap length l.second_is, length-append first (l.next ∷ l.more), b.few))
 
--- the version is the one that the header names
+-- The version is the one that the header names.
 pub behind_header : (v w : ℕ) (cells : List Cell) (tail bytes : List ℕ) → BeginsWith v w cells tail bytes → bytes ≡ header_text v w ++ (flat_map spelling cells ++ tail)
 behind_header v w cells tail bytes begins = begins.parts ∙ append_assoc (header_text v w) (flat_map spelling cells) tail
 
 pub named_version : (v w : ℕ) (cells : List Cell) (tail bytes : List ℕ) → BeginsWith v w cells tail bytes → slice_index bytes 8 ≡ v
 named_version v w cells tail bytes begins = ap (λ (l : List ℕ). slice_index l 8) (behind_header v w cells tail bytes begins) ∙ (header_bytes v w (flat_map spelling cells ++ tail)).0
 
--- a reading ends at one place
+-- A reading ends at one place.
 pub one_end_of : (v w most : ℕ) (first second : List Cell) (tail rest bytes : List ℕ) → IsEnd v w most first tail bytes → IsEnd v w most second rest bytes → (first ≡ second) × (tail ≡ rest)
 one_end_of v w most first second tail rest bytes a b =
     let tails : flat_map spelling first ++ tail ≡ flat_map spelling second ++ rest =
@@ -116,7 +116,7 @@ one_end_of v w most first second tail rest bytes a b =
       ]
     ]
 
--- in one version
+-- Both readings have the same version.
 pub one_end : (v u w most : ℕ) (first second : List Cell) (tail rest bytes : List ℕ) → IsEnd v w most first tail bytes → IsEnd u w most second rest bytes → (first ≡ second) × (tail ≡ rest) × (v ≡ u)
 one_end v u w most first second tail rest bytes a b =
     let same : v ≡ u = sym (named_version v w first tail bytes a.begins) ∙ named_version u w second rest bytes b.begins in
@@ -138,7 +138,7 @@ reserved_name e = cc e
 err_ok : (f : CellFault) (c : Cell) → ◌≡◌ {A = Result Cell CellFault} (Err f) (Ok c) → ⊥
 err_ok f c e = cc e
 
--- what is wrong with the cell at the front, as its bytes read
+-- What is wrong with the cell at the front, as its bytes are read.
 abbrev ReadsWrong : ℕ → ℕ → State → List ℕ → Cause → Type 0
 ReadsWrong v w s tail cause.ShortCell = length tail < 33
 ReadsWrong v w s tail cause.Kind = (33 ≤ length tail) × (decoded v (take 32 tail) ≡ Err cell_fault.Kind)
@@ -170,7 +170,7 @@ not_wrong v w known s next rest tail why fits is some possible wrong =
         let same : wrong.1 ≡ next = cc e in
         true≢false (sym possible ∙ sym (ap (is_possible_cell w s) same) ∙ wrong.3)
 
--- the ends: a clear commit byte, a cell at fault, a set commit byte behind the last cell that is read
+-- The three ends: a clear commit byte, a faulty cell, and a set commit byte after the last cell that is read.
 pub recovers_end : (w most : ℕ) (cells : List Cell) (bytes : List ℕ) (recovers : Recovers w cells bytes) → length cells ≤ most
     → IsEnd recovers.version w most cells (recovers.holds.text.commit_byte ∷ recovers.holds.rest) bytes
 recovers_end w most cells bytes recovers few = record {
@@ -184,14 +184,14 @@ recovers_end w most cells bytes recovers few = record {
   stuck = λ next rest fits is some possible lt. recovers.holds.text.clear (spelled_first next rest (recovers.holds.text.commit_byte ∷ recovers.holds.rest) is).0;
 }
 
--- a version that is read
+-- A version that is read.
 pub known_version : (oldest v : ℕ) → 1 ≤ oldest → IsWanted oldest v → IsVersion v
 known_version oldest v least wanted = elim (cases_eq v 1) [
   | inl first ↦ inl first
   | inr other ↦ inr (omega (arith, least, wanted.least, wanted.most, other))
 ]
 
--- a log's header is no other head, and no other version or width
+-- A log's header is no other head, and has no other version or width.
 has_header : (v w most : ℕ) (cells : List Cell) (tail bytes : List ℕ) → IsEnd v w most cells tail bytes → HasHeader v w bytes
 has_header v w most cells tail bytes end = record {
   rest = flat_map spelling cells ++ tail;
@@ -204,7 +204,7 @@ header_is_new oldest v w bytes version width wanted has old = ⊎_elim
     (λ other. other (subst (IsWanted oldest) (sym (old.version_is ∙ ap (λ (l : List ℕ). slice_index l 8) has.parts ∙ (header_bytes v w has.rest).0)) wanted))
     (λ other. other (old.width_is ∙ ap (λ (l : List ℕ). slice_index l 9) has.parts ∙ (header_bytes v w has.rest).1)) old.other
 
--- what is wrong with a cell is wrong for one reason
+-- A cell is wrong for one reason.
 one_reading : (v w : ℕ) (s : State) (tail : List ℕ) (why also : Cause) → ReadsWrong v w s tail why → ReadsWrong v w s tail also → why ≡ also
 one_reading v w s tail cause.ShortCell cause.ShortCell a b = refl
 one_reading v w s tail cause.ShortCell cause.Kind a b = absurd (omega (arith, a, b.0))
@@ -235,7 +235,7 @@ one_reading v w s tail cause.Impossible cause.Impossible a b = refl
 one_cause : (v w : ℕ) → IsVersion v → (s : State) (tail : List ℕ) (why also : Cause) → IsWrong v w s tail why → IsWrong v w s tail also → why ≡ also
 one_cause v w known s tail why also a b = one_reading v w s tail why also (reads_wrong v w known s tail why a) (reads_wrong v w known s tail also b)
 
--- for whoever wants versions from this one on
+-- For a caller that wants versions from `oldest` on.
 module _ (oldest w most : ℕ) (least : 1 ≤ oldest) (bytes : List ℕ) where
   pub damaged_end : (number : ℕ) (why : Cause) (d : IsDamaged oldest w most bytes number why) → IsEnd d.version w most d.cells d.tail bytes
   damaged_end number why d = record {
@@ -253,14 +253,14 @@ module _ (oldest w most : ℕ) (least : 1 ≤ oldest) (bytes : List ℕ) where
     stuck = λ next rest fits is some possible lt. omega (arith, lt, l.place);
   }
 
-  -- damage, or a cell too many, stands behind the header of a version that is wanted
+  -- A damaged cell, or one too many, comes after the header of a wanted version.
   damaged_header : (number : ℕ) (why : Cause) (d : IsDamaged oldest w most bytes number why) → HasHeader d.version w bytes
   damaged_header number why d = has_header d.version w most d.cells d.tail bytes (damaged_end number why d)
 
   long_header : (l : IsTooLong oldest w most bytes) → HasHeader l.version w bytes
   long_header l = has_header l.version w most l.cells l.tail bytes (long_end l)
 
-  -- bytes that recover to few enough cells show no fault
+  -- Bytes that recover to few enough cells show no fault.
   pub recovers_no_fault : (cells : List Cell) (e : OpenFault) → Recovers w cells bytes → IsWanted oldest (slice_index bytes 8) → length cells ≤ most → IsInBytes e → IsFault oldest (Some w) most bytes e → ⊥
   recovers_no_fault cells fault.NotLog recovers wanted few shown holds =
       header_is_log recovers.version w bytes (has_header recovers.version w most cells _ bytes (recovers_end w most cells bytes recovers few)) holds
@@ -288,7 +288,7 @@ module _ (oldest w most : ℕ) (least : 1 ≤ oldest) (bytes : List ℕ) where
       let same = one_end d.version l.version w most d.cells l.cells d.tail l.tail bytes (damaged_end n why d) (long_end l) in
       omega (arith, ap length same.0, d.place, d.few, l.place)
 
-  -- bytes show one fault at most
+  -- Bytes show at most one fault.
   pub one_fault : (e f : OpenFault) → IsInBytes e → IsInBytes f → IsFault oldest (Some w) most bytes e → IsFault oldest (Some w) most bytes f → e ≡ f
   one_fault fault.NotLog fault.NotLog se sf a b = refl
   one_fault fault.NotLog (fault.OldLog version width) se sf a b = absurd (b.is_log a)
@@ -318,7 +318,7 @@ module _ (oldest w most : ℕ) (least : 1 ≤ oldest) (bytes : List ℕ) where
   one_fault fault.Memory f se sf a b = absurd se
 
   module _ (old new : Drive) where
-    -- an answer that isn't free is the one fault, or tells it
+    -- A result that isn't free is the one fault.
     pub told_fault : (e f : OpenFault) → IsFault oldest (Some w) most bytes e → (e ≡ fault.Disk → Rose old.faults new.faults) → IsInBytes f → IsFault oldest (Some w) most bytes f → (e ≡ f) ⊎ IsFree old new e
     told_fault fault.Disk f holds rose shown is = inr (inr (rose refl))
     told_fault fault.Memory f holds rose shown is = inr (inl refl)
@@ -335,7 +335,7 @@ module _ (oldest w most : ℕ) (least : 1 ≤ oldest) (bytes : List ℕ) where
     told_free (fault.Damaged n why) cells holds rose recovers wanted few = absurd (recovers_no_fault cells (fault.Damaged n why) recovers wanted few tt holds)
     told_free (fault.TooLong limit) cells holds rose recovers wanted few = absurd (recovers_no_fault cells (fault.TooLong limit) recovers wanted few tt holds)
 
--- bytes that recover are of a version that is read
+-- Bytes that recover are of a version that is read.
 pub recovers_wanted : (w : ℕ) (cells : List Cell) (bytes : List ℕ) → Recovers w cells bytes → IsWanted 1 (slice_index bytes 8)
 recovers_wanted w cells bytes recovers =
     let named : slice_index bytes 8 ≡ recovers.version = index_version recovers.version w cells bytes recovers.holds in
@@ -345,7 +345,7 @@ pub passed_and : {T : Type 0} (result : Result T OpenFault) (e : OpenFault) (P :
 passed_and (Ok x) e P same holds = same
 passed_and (Err x) e P same holds = subst P (sym same) holds
 
--- bytes recover to one list of cells
+-- Bytes recover to one list of cells.
 pub one_recovery : (w : ℕ) (first second : List Cell) (bytes : List ℕ) → Recovers w first bytes → Recovers w second bytes → first ≡ second
 one_recovery w first second bytes a b =
     let most = length first + length second in

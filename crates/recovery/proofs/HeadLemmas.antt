@@ -22,17 +22,17 @@ header_parts : (v w : ℕ) → header_text v w ≡ take 8 (header_text newest 1)
 unfolding header_text
 header_parts v w = refl
 
--- the last bytes of a header
+-- The last bytes of a header.
 pub last_zeros : (v w : ℕ) → take 6 (drop 10 (header_text v w)) ≡ replicate 6 0
 unfolding header_text
 last_zeros v w = refl
 
--- a header names its version and its width
+-- A header names its version and its width.
 pub header_bytes : (v w : ℕ) (rest : List ℕ) → (slice_index (header_text v w ++ rest) 8 ≡ v) × (slice_index (header_text v w ++ rest) 9 ≡ w)
 unfolding header_text
 header_bytes v w rest = (refl, refl)
 
--- and so does a log
+-- A log begins with a header.
 log_parts : (v w : ℕ) (cells : List Cell) (bytes : List ℕ) (holds : HoldsCells v w cells bytes) → bytes ≡ header_text v w ++ (flat_map spelling cells ++ holds.text.commit_byte ∷ holds.rest)
 log_parts v w cells bytes holds =
     holds.parts ∙ ap (λ (l : List ℕ). l ++ holds.rest) holds.text.text ∙ append_assoc (front_of v w cells) (holds.text.commit_byte ∷ []) holds.rest
@@ -44,7 +44,7 @@ index_version v w cells bytes holds = ap (λ (l : List ℕ). slice_index l 8) (l
 pub index_width : (v w : ℕ) (cells : List Cell) (bytes : List ℕ) → HoldsCells v w cells bytes → slice_index bytes 9 ≡ w
 index_width v w cells bytes holds = ap (λ (l : List ℕ). slice_index l 9) (log_parts v w cells bytes holds) ∙ (header_bytes v w (flat_map spelling cells ++ holds.text.commit_byte ∷ holds.rest)).1
 
--- 16 bytes with the letters and the zeros of a header name a version and a width
+-- 16 bytes with the letters and the zeros of a header name a version and a width.
 pub is_header : (head : List ℕ) → length head ≡ 16 → take 8 head ≡ take 8 (header_text newest 1) → take 6 (drop 10 head) ≡ replicate 6 0 → head ≡ header_text (get_or head 8 0) (get_or head 9 0)
 is_header head long word zeros =
     let v : ℕ = get_or head 8 0 in
@@ -57,7 +57,7 @@ take_front : (n m : ℕ) (xs : List ℕ) → n ≤ m → m ≤ length xs → tak
 take_front n m xs le long = sym (take-append-le n (take m xs) (drop m xs) (omega (arith, le, long, length-take m xs))) ∙ ap (take n) (take-append-drop m xs)
 
 module _ (xs : List ℕ) (long : 17 ≤ length xs) where
-  -- what another head is at the front of a file
+  -- Another head at the front of a file.
   pub head_other : HasOtherHead (take 16 xs) → HasOtherHead xs
   head_other other = ⊎_elim
       (λ word. inl (λ e. word (take_front 8 16 xs (omega arith) (omega (arith, long)) ∙ e)))
@@ -74,17 +74,17 @@ header_zeros : (v w : ℕ) (rest : List ℕ) → take 6 (drop 10 (header_text v 
 unfolding header_text
 header_zeros v w rest = refl
 
--- a file with a header is a log
+-- A file with a header is a log.
 pub header_is_log : (v w : ℕ) (bytes : List ℕ) → HasHeader v w bytes → IsNotLog bytes → ⊥
 header_is_log v w bytes has not_log = ⊎_elim (λ short. omega (arith, short, has.long)) (λ other. ⊎_elim
     (λ word. word (ap (take 8) has.parts ∙ header_word v w has.rest))
     (λ zeros. zeros (ap (λ (l : List ℕ). take 6 (drop 10 l)) has.parts ∙ header_zeros v w has.rest)) other) not_log
 
--- a header, and no cell yet
+-- A header, and no cell yet.
 pub begins_first : (v w : ℕ) (xs : List ℕ) (has : HasHeader v w xs) → BeginsWith v w [] has.rest xs
 begins_first v w xs has = record { cells_fit = tt; legal = refl; parts = has.parts ∙ ap (λ (l : List ℕ). l ++ has.rest) (sym (append-nil (header_text v w))) }
 
--- a read of 16 bytes at the front
+-- A read of 16 bytes at the front.
 pub read_head : (got : ℕ) (into xs : List ℕ) → length into ≡ 16 → got ≤ 16 → 16 ≤ got → take got into ≡ take got xs → into ≡ take 16 xs
 read_head got into xs long le ge read =
     let all : got ≡ 16 = omega (arith, le, ge) in

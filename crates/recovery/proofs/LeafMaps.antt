@@ -1,4 +1,4 @@
--- A map from first keys to leaves that tile the key space, and the list of leaves that it stands for.
+-- A map from first keys to leaves that tile the key space, and the list of leaves that it represents.
 use Rattle.std.proofs.Common.{◌≡◌, ◌≢◌, ℕ, suc, ◌+◌, ◌-◌, ◌*◌, ◌^◌, ◌<◌, ◌≤◌, Bool, true, false, ◌&&◌, inl, inr, ◌==◌, List, [], ◌∷◌, ◌++◌, length, map, Option, Some, None, is_some, refl, sym, ◌∙◌, ap, arith, cond, length-append, append_assoc}
 use Rattle.std.specs.Prelude.{nat_le, ◌||◌}
 use Rattle.std.specs.Cmp.{first_so, second_so}
@@ -34,7 +34,7 @@ differs a b other = elim (cases_Bool (same_name a b)) [
 pub first_key-next : (name : List Bool) → first_key name < next_key name
 first_key-next name = omega (arith, pow_pos (64 - length name))
 
--- what the first of some leaves says where they tile the keys from k on
+-- What holds of the first leaf, if the leaves tile the keys from `k` on.
 module _ (k : ℕ) (l : MarkedLeaf) (leaves : List MarkedLeaf) (tile : tiles_from k (names_of (l ∷ leaves)) ≡ true) where
   pub tile_short : length l.name ≤ 64
   tile_short =
@@ -51,11 +51,11 @@ or_false : (a b : Bool) → a ≡ false → (a || b) ≡ true → b ≡ true
 or_false true b e h = absurd (true≢false e)
 or_false false b e h = h
 
--- a leaf that isn't the first is one of the others
+-- A leaf that isn't the first is one of the others.
 pub rest_leaf : (l : MarkedLeaf) (leaves : List MarkedLeaf) (name : List Bool) → same_name l.name name ≡ false → is_leaf (names_of (l ∷ leaves)) name ≡ true → is_leaf (names_of leaves) name ≡ true
 rest_leaf l leaves name other leaf = or_false (same_name l.name name) (is_leaf (names_of leaves) name) other leaf
 
--- a leaf begins where the first one does, or later
+-- No leaf begins before the first one does.
 pub leaf_from : (k : ℕ) (leaves : List MarkedLeaf) (name : List Bool) → tiles_from k (names_of leaves) ≡ true → is_leaf (names_of leaves) name ≡ true → k ≤ first_key name
 leaf_from k [] name tile leaf = absurd (true≢false (sym leaf))
 leaf_from k (l ∷ leaves) name tile leaf = elim (cases_Bool (same_name l.name name)) [
@@ -63,12 +63,12 @@ leaf_from k (l ∷ leaves) name tile leaf = elim (cases_Bool (same_name l.name n
   | inr e ↦ omega (arith, tile_first k l leaves tile, first_key-next l.name, leaf_from (next_key l.name) leaves name (tile_rest k l leaves tile) (rest_leaf l leaves name e leaf))
 ]
 
--- a leaf that isn't the first begins behind it
+-- A leaf that isn't the first begins after it.
 later : (k : ℕ) (l : MarkedLeaf) (leaves : List MarkedLeaf) (name : List Bool) → tiles_from k (names_of (l ∷ leaves)) ≡ true → same_name l.name name ≡ false → is_leaf (names_of (l ∷ leaves)) name ≡ true
     → next_key l.name ≤ first_key name
 later k l leaves name tile other leaf = leaf_from (next_key l.name) leaves name (tile_rest k l leaves tile) (rest_leaf l leaves name other leaf)
 
--- unlike leaf's half is a leaf
+-- A name differs from each of its halves.
 longer : (name : List Bool) (b : Bool) → name ≡ name ++ b ∷ [] → ⊥
 longer name b e = absurd (omega (arith, ap length e, length-append name (b ∷ [])))
 
@@ -79,7 +79,7 @@ half_first name true room =
     let double : 2 ^ suc (63 - length name) ≡ 2 * 2 ^ (63 - length name) = pow-succ' 2 (63 - length name) in
     (omega (arith, first_right name room), omega (arith, first_right name room, ap (λ n. 2 ^ n) e, double, pow_pos (63 - length name)))
 
--- unlike leaf has a name that a half of another has
+-- No leaf has the name of a half of another leaf.
 pub no_half : (k : ℕ) (leaves : List MarkedLeaf) (name : List Bool) (b : Bool) → length name + 1 ≤ 64 → tiles_from k (names_of leaves) ≡ true → is_leaf (names_of leaves) name ≡ true → is_leaf (names_of leaves) (name ++ b ∷ []) ≡ true → ⊥
 no_half k [] name b room tile leaf half = true≢false (sym leaf)
 no_half k (l ∷ leaves) name b room tile leaf half =
@@ -94,7 +94,7 @@ no_half k (l ∷ leaves) name b room tile leaf half =
       ]
     ]
 
--- what the leaf at a name's first key says of a name
+-- What the leaf at a name's first key says about the name.
 abbrev pub picked : List Bool → Option MarkedLeaf → Option ℕ
 picked name None = None
 picked name (Some l) = cond (same_name l.name name) (Some l.split) None
@@ -121,7 +121,7 @@ picked-lookup k (l ∷ leaves) name tile =
           grind (arith, nat_tests, common_steps)
     ]
 
--- a leaf is found at its first key
+-- A leaf is found at its first key.
 pub lookup-leaf : (k : ℕ) (leaves : List MarkedLeaf) (name : List Bool) → tiles_from k (names_of leaves) ≡ true → is_leaf (names_of leaves) name ≡ true
     → (l : MarkedLeaf) × (lookup (is_at (nat_cmp (first_key name))) (map keyed leaves) ≡ Some l)
 lookup-leaf k [] name tile leaf = absurd (true≢false (sym leaf))
@@ -143,7 +143,7 @@ with_begun-before k (l ∷ leaves) name number tile lt =
     let rest : with_begun name number leaves ≡ leaves = with_begun-before (next_key l.name) leaves name number (tile_rest k l leaves tile) (omega (arith, first_key-next l.name, tile_first k l leaves tile, lt)) in
     λ i. cond (other i) (record { name = name; split = number }) l ∷ rest i
 
--- a leaf inserted at the first key of one with its name takes its place
+-- A leaf that is inserted at the first key of its own name replaces the old one.
 pub keyed-with_begun : (k : ℕ) (leaves : List MarkedLeaf) (name : List Bool) (number : ℕ) → tiles_from k (names_of leaves) ≡ true → is_leaf (names_of leaves) name ≡ true
     → insert_entry nat_cmp (map keyed leaves) (first_key name) (record { name = name; split = number }) ≡ map keyed (with_begun name number leaves)
 keyed-with_begun k [] name number tile leaf = absurd (true≢false (sym leaf))
@@ -168,7 +168,7 @@ names_of-with_begun (l ∷ leaves) name number =
       | inr e ↦ λ i. (cond (e i) (record { name = name; split = number }) l).name ∷ rest i
     ]
 
--- the split begun of a leaf is the one last begun of it
+-- After a begin the leaf is marked with that split.
 pub split_at-begun : (leaves : List MarkedLeaf) (name : List Bool) (number : ℕ) → is_leaf (names_of leaves) name ≡ true → split_at (with_begun name number leaves) name ≡ Some number
 split_at-begun [] name number leaf = absurd (true≢false (sym leaf))
 split_at-begun (l ∷ leaves) name number leaf =
@@ -180,7 +180,7 @@ split_at-begun (l ∷ leaves) name number leaf =
           grind (arith, common_steps)
     ]
 
--- and of no other leaf
+-- Every other leaf keeps its mark.
 pub split_at-begun-other : (leaves : List MarkedLeaf) (name : List Bool) (number : ℕ) (other : List Bool) → other ≢ name → split_at (with_begun name number leaves) other ≡ split_at leaves other
 split_at-begun-other [] name number other unlike = refl
 split_at-begun-other (l ∷ leaves) name number other unlike =
@@ -199,7 +199,7 @@ insert-front k (m ∷ leaves) key l tile lt =
     let below : key < first_key m.name = omega (arith, tile_first k m leaves tile, lt) in
     grind (arith, nat_tests, common_steps)
 
--- the second half inserted, and then the first half at the leaf's own key
+-- Insert the second half, and then the first half at the leaf's own key.
 pub keyed-halved : (k : ℕ) (leaves : List MarkedLeaf) (name : List Bool) → length name + 1 ≤ 64 → tiles_from k (names_of leaves) ≡ true → is_leaf (names_of leaves) name ≡ true
     → insert_entry nat_cmp (insert_entry nat_cmp (map keyed leaves) (first_key (name ++ true ∷ [])) (new_leaf (name ++ true ∷ []))) (first_key name) (new_leaf (name ++ false ∷ [])) ≡ map keyed (halved name leaves)
 keyed-halved k [] name room tile leaf = absurd (true≢false (sym leaf))
@@ -241,7 +241,7 @@ names_of-halved (l ∷ leaves) name = by_test (names_of-halved leaves name) (sam
     by_test rest true = refl
     by_test rest false = ap (λ ns. l.name ∷ ns) rest
 
--- both halves of a leaf are leaves afterwards
+-- Both halves of a leaf are leaves afterwards.
 pub leaf-halved : (leaves : List MarkedLeaf) (name : List Bool) → is_leaf (names_of leaves) name ≡ true
     → (is_leaf (names_of (halved name leaves)) (name ++ false ∷ []) ≡ true) × (is_leaf (names_of (halved name leaves)) (name ++ true ∷ []) ≡ true)
 leaf-halved [] name leaf = absurd (true≢false (sym leaf))
@@ -257,7 +257,7 @@ leaf-halved (l ∷ leaves) name leaf =
           (grind (arith, common_steps), grind (arith, common_steps))
     ]
 
--- another leaf stays one
+-- Every other leaf stays a leaf.
 pub leaf-halved-other : (leaves : List MarkedLeaf) (name other : List Bool) → other ≢ name → is_leaf (names_of leaves) other ≡ true → is_leaf (names_of (halved name leaves)) other ≡ true
 leaf-halved-other [] name other unlike leaf = leaf
 leaf-halved-other (l ∷ leaves) name other unlike leaf = elim (cases_Bool (same_name l.name name)) [
@@ -273,7 +273,7 @@ leaf-halved-other (l ∷ leaves) name other unlike leaf = elim (cases_Bool (same
   ]
 ]
 
--- a leaf that has a mark is a leaf
+-- A leaf that has a mark is a leaf.
 pub leaf_marked : (leaves : List MarkedLeaf) (name : List Bool) (number : ℕ) → split_at leaves name ≡ Some number → is_leaf (names_of leaves) name ≡ true
 leaf_marked [] name number found = cc
 leaf_marked (l ∷ leaves) name number found = elim (cases_Bool (same_name l.name name)) [
@@ -312,7 +312,7 @@ IsLeafMap-with_begun entries leaves name number keys tile =
 pub IsLeafMap-halved : (entries : List (ℕ × MarkedLeaf)) (leaves : List MarkedLeaf) (name : List Bool) → length name + 1 ≤ 64 → entries ≡ map keyed (halved name leaves) → tiles_from 0 (names_of leaves) ≡ true → IsLeafMap entries
 IsLeafMap-halved entries leaves name room keys tile = is_leaf_map entries (halved name leaves) keys (tile-halved 0 leaves name room ∙ tile)
 
--- the leaf is still found once its second half is inserted
+-- The leaf is still found after its second half was inserted.
 pub lookup-beside : (k : ℕ) (leaves : List MarkedLeaf) (name : List Bool) (l : MarkedLeaf) → length name + 1 ≤ 64 → tiles_from k (names_of leaves) ≡ true
     → lookup (is_at (nat_cmp (first_key name))) (insert_entry nat_cmp (map keyed leaves) (first_key (name ++ true ∷ [])) l) ≡ lookup (is_at (nat_cmp (first_key name))) (map keyed leaves)
 lookup-beside k [] name l room tile =
@@ -324,7 +324,7 @@ lookup-beside k (m ∷ leaves) name l room tile =
     = lookup-beside (next_key m.name) leaves name l room (tile_rest k m leaves tile) in
     grind (arith, nat_tests, common_steps)
 
--- a mark of another leaf stays where one is halved
+-- Halving a leaf keeps the marks of the others.
 pub keeps-halved : (leaves : List MarkedLeaf) (name : List Bool) → length name + 1 ≤ 64 → tiles_from 0 (names_of leaves) ≡ true → is_leaf (names_of leaves) name ≡ true → KeepsMarks name leaves (halved name leaves)
 keeps-halved leaves name room tile leaf other number unlike found =
     let marked = leaf_marked leaves other number found in
@@ -335,7 +335,7 @@ halves_differ : (name : List Bool) → name ++ true ∷ [] ≢ name ++ false ∷
 halves_differ [] e = cc e
 halves_differ (b ∷ name) e = halves_differ name (cc e)
 
--- a leaf's four children, by three halvings
+-- The four children of a leaf, by three halvings.
 module _ (leaves : List MarkedLeaf) (name : List Bool) (room : length name + 2 ≤ 64) (tile : tiles_from 0 (names_of leaves) ≡ true) (leaf : is_leaf (names_of leaves) name ≡ true) where
   one_more : length name + 1 ≤ 64
   one_more = omega (arith, room)
@@ -370,7 +370,7 @@ module _ (leaves : List MarkedLeaf) (name : List Bool) (room : length name + 2 �
 quarter : (name : List Bool) (a b : Bool) → (name ++ a ∷ []) ++ b ∷ [] ≡ name ++ a ∷ b ∷ []
 quarter name a b = append_assoc name (a ∷ []) (b ∷ [])
 
--- the second half behind the halves of the first
+-- The second half after the halves of the first.
 quartered_there : (name : List Bool) (leaves : List MarkedLeaf)
     → same_name ((name ++ false ∷ []) ++ false ∷ []) (name ++ true ∷ []) ≡ false → same_name ((name ++ false ∷ []) ++ true ∷ []) (name ++ true ∷ []) ≡ false → same_name (name ++ true ∷ []) (name ++ true ∷ []) ≡ true
     → names_of (halved (name ++ true ∷ []) (new_leaf ((name ++ false ∷ []) ++ false ∷ []) ∷ new_leaf ((name ++ false ∷ []) ++ true ∷ []) ∷ new_leaf (name ++ true ∷ []) ∷ leaves))
@@ -413,7 +413,7 @@ names_of-quartered k (l ∷ leaves) name room tile leaf =
           ∙ sym (ap (λ t. cond t ((name ++ false ∷ false ∷ []) ∷ (name ++ false ∷ true ∷ []) ∷ (name ++ true ∷ false ∷ []) ∷ (name ++ true ∷ true ∷ []) ∷ names_of leaves) (l.name ∷ split_leaf 2 name (names_of leaves))) e)
     ]
 
--- a leaf is one that has a mark
+-- A name is a leaf if and only if it has a mark.
 pub is_leaf-marked : (leaves : List MarkedLeaf) (name : List Bool) → is_leaf (names_of leaves) name ≡ is_some (split_at leaves name)
 is_leaf-marked [] name = refl
 is_leaf-marked (l ∷ leaves) name =

@@ -25,7 +25,7 @@ log_made w drive old piece new small is holds told only =
       durable = only;
     }
 
--- a fault makes nothing, and what is said of it is said of the one that is passed on
+-- After a fault the claim about a success holds trivially.
 pub not_made : {T E : Type 0} (result : Result T E) (fault : E) (P : Type 0) → IsErrAnd result (λ e. e ≡ fault) → OnOk result P
 not_made (Ok x) fault P same = absurd same
 not_made (Err e) fault P same = tt
@@ -34,7 +34,7 @@ pub refused_on : {T E : Type 0} (result : Result T E) (fault : E) (P : E → Typ
 refused_on (Ok x) fault P same holds = tt
 refused_on (Err e) fault P same holds = subst P (sym same) holds
 
--- a small file stays small while it is looked at, written over and synced
+-- A small file stays small while it is read, written over and synced.
 module _ (a b : Drive) (laws : KeepsLaws a) (stays : Stays a b) where
   pub small_stays : a.faults ≤ b.faults → SameFile a b → KeepsSmall a b
   small_stays later file = record { small = λ now. leaves-stays a b IsSmall laws now stays; in_use = λ bytes told long. stays; later = later; file = file }

@@ -23,7 +23,7 @@ stays-trans a b c first second = record {
 pub rose-earlier : (a b c : ℕ) → a ≤ b → Rose b c → Rose a c
 rose-earlier a b c le rose = omega (arith, le, rose)
 
--- what was found is said of the drive before calls that left its bytes
+-- What was found holds of the drive before, if the calls left its bytes unchanged.
 pub found_before : (oldest w most : ℕ) (a b : Drive) (seen : Seen) → b.bytes ≡ a.bytes → IsFound oldest w most b seen → IsFound oldest w most a seen
 found_before oldest w most a b seen kept found = record {
   cells = found.cells;
@@ -35,11 +35,11 @@ found_before oldest w most a b seen kept found = record {
   named = λ bytes told. found.named bytes (kept ∙ told);
 }
 
--- what the bytes show isn't the drive's fault
+-- A fault that the bytes show isn't the drive's.
 pub in_bytes-other : (e : OpenFault) → IsInBytes e → e ≢ Disk
 in_bytes-other e shown disk = subst IsInBytes disk shown
 
--- a reading whose last answer isn't the drive's
+-- A reading whose last result isn't the drive's fault.
 pub reads_sound : {T : Type 0} (a b : Drive) (result : Result T OpenFault) → Stays a b → b.faults ≡ a.faults → SameFile a b → IfErr result (λ e. e ≢ Disk) → OnlyReads a b result
 reads_sound a b (Ok x) stays calm file sound = record { stays = stays; later = omega (arith, calm); same = calm; failed = λ disk. cc disk; file = file }
 reads_sound a b (Err e) stays calm file sound = record { stays = stays; later = omega (arith, calm); same = λ other. calm; failed = λ disk. absurd (sound (cc disk)); file = file }

@@ -25,7 +25,7 @@ use Rattle.recovery.specs.Wanted.{IsWidthFor}
 use Rattle.recovery.specs.Widths.{IsWidthOf}
 use Rattle.recovery.proofs.HeadLemmas.{index_version, index_width}
 
--- one stretch after another
+-- One stretch after another.
 pub leaves-trans : (a b c : Drive) (P : List ℕ → Type 0) → LeavesOnly a b P → LeavesOnly b c P → LeavesOnly a c P
 leaves-trans a b c P first second = record {
   later = omega (arith, first.later, second.later);
@@ -33,7 +33,7 @@ leaves-trans a b c P first second = record {
   before = λ t x le left. ⊎_elim (λ before. first.before t x le before) (λ holds. inr holds) (second.before t x (omega (arith, le, first.later)) left);
 }
 
--- a call that only reads
+-- A call that only reads.
 pub leaves-stays : (a b : Drive) (P : List ℕ → Type 0) → KeepsLaws a → LeavesNow a P → Stays a b → LeavesOnly a b P
 leaves-stays a b P laws now stays = record {
   later = omega (arith, stays.clock);
@@ -41,11 +41,11 @@ leaves-stays a b P laws now stays = record {
   before = λ t x le left. inl (stays.since t x left);
 }
 
--- a sync
+-- A sync.
 pub leaves-sync : {T : Type 0} (a b : Drive) (P : List ℕ → Type 0) (result : Result T DiskFault) → KeepsLaws a → LeavesNow a P → Syncs a b result → LeavesOnly a b P
 leaves-sync a b P result laws now syncs = goes_on a a b P (started a P laws now) syncs.time (λ x left. now x (syncs.crash x left))
 
--- a sync, and then calls that only read, keep the cells
+-- A sync, and then calls that only read, keep the cells.
 pub keeps_sync : {T : Type 0} (a b : Drive) (result : Result T DiskFault) → KeepsLaws a → Syncs a b result → a.faults ≤ b.faults → KeepsStanding a b
 keeps_sync a b result laws syncs later = record { cells = λ w bytes cells told now. leaves-sync a b (Recovers w cells) result laws now syncs; later = later }
 
@@ -55,11 +55,11 @@ keeps_stays a b c laws bytes_kept images_kept synced stays later = record {
   later = omega (arith, synced.later, later);
 }
 
--- the version of a log that is wanted from the newest on
+-- The only version from the newest on is the newest.
 pub newest_is : (v : ℕ) → IsWanted newest v → v ≡ newest
 newest_is v wanted = omega (arith, wanted.least, wanted.most)
 
--- the text of cells ends here
+-- The text of the cells ends here.
 module _ (w : ℕ) (cells : List Cell) (end : ℕ) (at_end : end ≡ 17 + 32 * length cells) where
   front_long : (v : ℕ) (bytes : List ℕ) (holds : HoldsCells v w cells bytes) → length holds.front ≡ end
   front_long v bytes holds =
@@ -68,7 +68,7 @@ module _ (w : ℕ) (cells : List Cell) (end : ℕ) (at_end : end ≡ 17 + 32 * l
   pub front_is : (v : ℕ) (bytes : List ℕ) (holds : HoldsCells v w cells bytes) → take end bytes ≡ holds.front
   front_is v bytes holds = ap (take end) holds.parts ∙ take_at holds.front holds.rest end (front_long v bytes holds)
 
-  -- bytes that recover to them still do when they are cut there, or partly
+  -- Bytes that recover to the cells still do so when they are cut there, wholly or partly.
   pub recovers-shortened : (old new : List ℕ) → Recovers w cells old → Shortened end old new → Recovers w cells new
   recovers-shortened old new recovers cut =
       let front : take end new ≡ recovers.holds.front = cut.before ∙ front_is recovers.version old recovers.holds in
@@ -90,7 +90,7 @@ module _ (w : ℕ) (cells : List Cell) (end : ℕ) (at_end : end ≡ 17 + 32 * l
       let here : LeavesNow b (Recovers w cells) = λ x left. let (d, before, cut) = cuts.crash x left in recovers-shortened d x (now d before) cut in
       (goes_on a a b (Recovers w cells) (started a (Recovers w cells) laws now) cuts.time here, here)
 
--- a cut behind the header keeps the version
+-- A cut after the header keeps the version.
 shortened-newest : (end : ℕ) (old new : List ℕ) → 9 ≤ end → Shortened end old new → IsNewest old → IsNewest new
 shortened-newest end old new long cut is =
     let within : 8 < end = omega (arith, long) in
@@ -101,7 +101,7 @@ newest-cut end a b result long laws cuts now =
     let here : LeavesNow b IsNewest = λ x left. let (d, before, cut) = cuts.crash x left in shortened-newest end d x long cut (now d before) in
     (goes_on a a b IsNewest (started a IsNewest laws now) cuts.time here, here)
 
--- a sync, calls that only read, and what comes behind them
+-- A sync, calls that only read, and what follows them.
 pub newest-read : {T : Type 0} (a b c : Drive) (result : Result T DiskFault) → KeepsLaws a → KeepsLaws b → Syncs a b result → Stays b c → KeepsNewest a c
 newest-read a b c result before after syncs stays now =
     leaves-trans a b c IsNewest (leaves-sync a b IsNewest result before now syncs) (leaves-stays b c IsNewest after (λ x left. now x (syncs.crash x left)) stays)
@@ -112,7 +112,7 @@ newest-last a b c d result before after syncs stays last now =
 
 module _ (w most len : ℕ) (d0 d1 d2 : Drive) (seen : Seen) (laws0 : KeepsLaws d0) (laws1 : KeepsLaws d1) (bytes_kept : d1.bytes ≡ d0.bytes) (images_kept : (c : List ℕ) → d1.images c → d0.images c)
     (in_file : IsFoundIn newest w most d1 seen len) (stays : Stays d1 d2) where
-  -- the cells that were found are those that a crash leaves
+  -- The cells that were found are those that a crash leaves.
   found_cells : (v : ℕ) (bytes : List ℕ) (cells : List Cell) → IsWidthOf d1 w → d0.bytes ≡ Some bytes → LeavesNow d0 (Recovers v cells) → 17 + 32 * seen.cells ≡ 17 + 32 * length cells
   found_cells v bytes cells width told now =
       let recovers = now bytes (laws0.held bytes told) in
@@ -132,14 +132,14 @@ module _ (w most len : ℕ) (d0 d1 d2 : Drive) (seen : Seen) (laws0 : KeepsLaws 
     later = omega (arith, synced.later, read_later, cut_later);
   }
 
-  -- which calls opened it, after the sync and the calls that only read
+  -- The calls that opened the log, after the sync and the calls that only read.
   pub calls_open : (d3 : Drive) → MadeWell 1 d0 d1 → ((len ≡ 17 + 32 * seen.cells) × HasNoMore d2.calls d3.calls) ⊎ ((17 + 32 * seen.cells < len) × MadeWell 2 d2 d3) → CallsToOpen seen.cells d0 d3
   calls_open d3 first (inl (at_end, none)) =
       inl (λ bytes told. in_file.whole bytes (bytes_kept ∙ told) ∙ at_end, made-still (true ∷ []) d0 d1 d3 first (λ all told. stays.calls all (none all told)))
   calls_open d3 first (inr (longer, more)) =
       inr (λ bytes told. omega (arith, longer, in_file.whole bytes (bytes_kept ∙ told)), made-then (true ∷ []) (true ∷ true ∷ []) d0 d1 d3 first (still-made (true ∷ true ∷ []) d1 d2 d3 stays.calls more))
 
-  -- cut where they end, the file is their log
+  -- After a cut at the end of the cells, the file is their log.
   pub is_ready : (d3 : Drive) → KeepsNewest d0 d3 → d3.faults ≡ d0.faults → SameFile d0 d3 → CallsToOpen seen.cells d0 d3 → ((bytes : List ℕ) → d0.bytes ≡ Some bytes → Only bytes d1.images) → is_some d3.bytes ≡ is_some d2.bytes
       → ((xs : List ℕ) → d2.bytes ≡ Some xs → Only xs d2.images → (d3.bytes ≡ Some (take (17 + 32 * seen.cells) xs)) × Only (take (17 + 32 * seen.cells) xs) d3.images) → IsReady w seen d0 d3
   is_ready d3 kept_newest same file calls only told_kept cut = record {
@@ -167,16 +167,16 @@ module _ (w most len : ℕ) (d0 d1 d2 : Drive) (seen : Seen) (laws0 : KeepsLaws 
         );
   }
 
--- a fault is no find
+-- After a fault the claim about a success holds trivially.
 pub not_ok : {T E : Type 0} (result : Result T E) (fault : E) (P : T → Type 0) → IsErrAnd result (λ e. e ≡ fault) → IfOk result P
 not_ok (Ok x) fault P same = absurd same
 not_ok (Err e) fault P same = tt
 
--- where the count rose later it rose
+-- A count that rose later has risen.
 pub rose-later : (a b c : ℕ) → a ≤ b → Rose b c → Rose a c
 rose-later a b c le rose = omega (arith, le, rose)
 
--- a sync, and then calls that only read, leave the file
+-- A sync, and then calls that only read, leave the file unchanged.
 untouched-sync : {T : Type 0} (a b : Drive) (result : Result T DiskFault) → Syncs a b result → IsUntouched a b
 untouched-sync a b result syncs = record {
   bytes = syncs.bytes;
@@ -191,7 +191,7 @@ untouched-stays a b c first stays = record {
   since = λ t x le left. first.since t x le (stays.since t x left);
 }
 
--- which calls were made up to a fault of the sync, of the calls that read, and of the cut or the sync behind it
+-- The calls up to a fault of the sync, of a read, of the cut, or of the sync after the cut.
 sync_refused : (a b : Drive) → Made (false ∷ []) a b → CallsRefused Disk a b
 sync_refused a b made = record { other = λ other. absurd (other refl); disk = inr (0, record { few = lit≤ tt; calls = made }) }
 
@@ -204,13 +204,14 @@ cut_refused a b c d first still (inl at_cut) =
 cut_refused a b c d first still (inr at_sync) =
     record { other = λ other. absurd (other refl); disk = inr (2, record { few = lit≤ tt; calls = made-then (true ∷ []) (true ∷ false ∷ []) a b d first (still-made (true ∷ false ∷ []) b c d still at_sync) }) }
 
--- an opening that is refused at its sync, at what was read, and at the cut
+-- An opening that is refused at its sync, at what was read, or at the cut.
 pub refused_sync : {T : Type 0} (wanted : Option ℕ) (most : ℕ) (a b : Drive) (result : Result T DiskFault) → KeepsNewest a b → Syncs a b result → Made (false ∷ []) a b → SameFile a b → LeavesUnopened wanted most a b Disk
 refused_sync wanted most a b result kept_newest syncs made file = record {
   newest = kept_newest;
   unfailed = λ other. absurd (other refl);
   calm = λ other. absurd (other refl);
   no_log = λ bytes told none. untouched-sync a b result syncs;
+  told = ap is_some syncs.bytes;
   calls = sync_refused a b made;
   file = file;
 }
@@ -221,11 +222,12 @@ refused_read wanted most a b c result fault kept_newest syncs made stays same ca
   unfailed = λ other. untouched-stays a b c (untouched-sync a b result syncs) stays;
   calm = λ other. calm other ∙ same;
   no_log = λ bytes told none. untouched-stays a b c (untouched-sync a b result syncs) stays;
+  told = ap is_some (stays.bytes ∙ syncs.bytes);
   calls = read_refused a b c fault made stays.calls;
   file = file;
 }
 
--- a log that was found is one that might be opened
+-- A log that was found is one that might be opened.
 log_stands : (wanted : Option ℕ) (w most len : ℕ) (drive : Drive) (seen : Seen) (bytes : List ℕ) → drive.bytes ≡ Some bytes → IsFoundFor newest wanted most drive w seen len → HasNoLogFor wanted most bytes → ⊥
 log_stands wanted w most len drive seen bytes told at none =
     let found = at.within.found in
@@ -235,22 +237,23 @@ log_stands wanted w most len drive seen bytes told at none =
     no_log (Some v) same none = subst (λ u. HasNoLog u most bytes) same none
     no_log None known none = none w known
 
-pub refused_cut : (wanted : Option ℕ) (w most len : ℕ) (a b c d : Drive) (seen : Seen) → KeepsNewest a d → b.bytes ≡ a.bytes → IsFoundFor newest wanted most b w seen len → MadeWell 1 a b → Stays b c → Made (false ∷ []) c d ⊎ Made (true ∷ false ∷ []) c d → SameFile a d → LeavesUnopened wanted most a d Disk
-refused_cut wanted w most len a b c d seen kept_newest kept at made stays failed file = record {
+pub refused_cut : (wanted : Option ℕ) (w most len : ℕ) (a b c d : Drive) (seen : Seen) → KeepsNewest a d → b.bytes ≡ a.bytes → IsFoundFor newest wanted most b w seen len → MadeWell 1 a b → Stays b c → is_some d.bytes ≡ is_some c.bytes → Made (false ∷ []) c d ⊎ Made (true ∷ false ∷ []) c d → SameFile a d → LeavesUnopened wanted most a d Disk
+refused_cut wanted w most len a b c d seen kept_newest kept at made stays cut failed file = record {
   newest = kept_newest;
   unfailed = λ other. absurd (other refl);
   calm = λ other. absurd (other refl);
   no_log = λ bytes told none. absurd (log_stands wanted w most len b seen bytes (kept ∙ told) at none);
+  told = cut ∙ ap is_some (stays.bytes ∙ kept);
   calls = cut_refused a b c d made stays.calls failed;
   file = file;
 }
 
--- the calls of a cut that failed, passed on
+-- The calls of a cut that failed, passed on.
 pub cut_failed : {T : Type 0} (end len : ℕ) (a b : Drive) (result : Result T DiskFault) (fault : DiskFault) → IsErrAnd result (λ e. e ≡ fault) → Made (false ∷ []) a b ⊎ Made (true ∷ false ∷ []) a b → CallsToCut end len a b result
 cut_failed end len a b (Ok x) fault same calls = absurd same
 cut_failed end len a b (Err e) fault same calls = calls
 
--- a fault of a device call, passed on
+-- A fault of a device call, passed on.
 pub counts_on : {T : Type 0} (a b : Drive) (result : Result T DiskFault) (fault : DiskFault) → IsErrAnd result (λ e. e ≡ fault) → a.faults ≤ b.faults → Rose a.faults b.faults → SameFile a b → CountsFaults a b result
 counts_on a b (Ok x) fault same later rose file = absurd same
 counts_on a b (Err e) fault same later rose file = record { later = later; same = tt; failed = rose; file = file }

@@ -1,4 +1,4 @@
--- What the pieces of a log say of its bytes.
+-- What the pieces of a log say about its bytes.
 use Rattle.std.proofs.Common.{◌≡◌, ◌≢◌, ℕ, ◌+◌, ◌-◌, ◌*◌, ◌<◌, ◌≤◌, min, true, List, [], ◌∷◌, ◌++◌, length, take, drop, Option, Some, None, refl, sym, ◌∙◌, ap, subst, arith, append_assoc, length-append, length-take}
 use Rattle.std.specs.Prelude.{slice_index, Result, Ok, Err, IfOk}
 use Rattle.std.specs.Result.{IsErrAnd}
@@ -35,7 +35,7 @@ use Rattle.recovery.proofs.PieceLemmas.{all_append}
 use Rattle.recovery.proofs.CellEffects.{placed_after}
 use Rattle.log_state.proofs.LegalCells.{cells_after-append, legal-append}
 
--- what stands behind a front tells the first byte and the cell at its front
+-- The bytes after the cells decide the next commit byte and the next cell.
 pub first_byte : (tail more : List ℕ) → 1 ≤ length tail → slice_index (tail ++ more) 0 ≡ slice_index tail 0
 first_byte [] more some = absurd (omega (arith, some))
 first_byte (b ∷ tail) more some = refl
@@ -51,7 +51,7 @@ wrong_on v w s tail more cause.Reserved short wrong = (omega (arith, wrong.0, le
 wrong_on v w s tail more cause.BadName short wrong = (omega (arith, wrong.0, length-append tail more), subst (HasBadName v) (sym (take-append-le 32 tail more (omega (arith, wrong.0)))) wrong.1)
 wrong_on v w s tail more cause.Impossible short wrong = (omega (arith, wrong.0, length-append tail more), wrong.1, subst (Spells v wrong.1) (sym (take-append-le 32 tail more (omega (arith, wrong.0)))) wrong.2, wrong.3)
 
--- a front of cells, and a clear commit byte behind them
+-- Cells at the front, and a clear commit byte after them.
 pub holds_clear : (v w : ℕ) (cells : List Cell) (tail bytes : List ℕ) → BeginsWith v w cells tail bytes → 1 ≤ length tail → slice_index tail 0 ≢ 1 → HoldsCells v w cells bytes
 holds_clear v w cells [] bytes begins some clear = absurd (omega (arith, some))
 holds_clear v w cells (b ∷ tail) bytes begins some clear = record {
@@ -61,7 +61,7 @@ holds_clear v w cells (b ∷ tail) bytes begins some clear = record {
   text = record { cells_fit = begins.cells_fit; commit_byte = b; clear = clear; text = refl };
 }
 
--- what stands behind the cells
+-- The bytes after the cells.
 pub behind_cells : (v w : ℕ) (cells : List Cell) (tail bytes : List ℕ) → BeginsWith v w cells tail bytes → (drop (16 + 32 * length cells) bytes ≡ tail) × (length bytes ≡ 16 + 32 * length cells + length tail)
 behind_cells v w cells tail bytes begins =
     let parts : bytes ≡ front_of v w cells ++ tail = begins.parts in (
@@ -69,7 +69,7 @@ behind_cells v w cells tail bytes begins =
       omega (arith, ap length parts, length-append (front_of v w cells) tail, length-front_of v w cells),
     )
 
--- one cell more behind a front of them
+-- One more cell after the first ones.
 front_next : (v w : ℕ) (cells : List Cell) (c : Cell) → front_of v w cells ++ spelling c ≡ front_of v w (cells ++ c ∷ [])
 front_next v w cells c =
     append_assoc (header_text v w) (flat_map spelling cells) (spelling c)
@@ -87,7 +87,7 @@ begins_next v w cells c piece more bytes begins fits spelled possible = record {
       ∙ ap (λ (l : List ℕ). l ++ (drop 32 piece ++ more)) (front_next v w cells c);
 }
 
--- before the first cell
+-- Before the first cell.
 pub starts : (oldest : ℕ) (wanted : Option ℕ) (version w most len : ℕ) (drive : Drive) (replay : ReplayView) → replay ≡ record { version = version; width = w; state = empty_state } → IsWanted oldest version → IsWidth w → IsWidthFor wanted w → 17 ≤ len
     → ((xs : List ℕ) → drive.bytes ≡ Some xs → length xs ≡ len) → ((xs : List ℕ) → drive.bytes ≡ Some xs → HasHeader version w xs)
     → StartsFor oldest wanted most drive (record { replay = replay; number = 0; most = most; len = len; rest = [] })
@@ -104,12 +104,12 @@ starts oldest wanted version w most len drive replay first is_wanted known fits 
       };
     })
 
--- what was read is said of the drive after calls that only read
+-- What was read holds of the drive after calls that only read.
 pub has_read-stays : (cells : List Cell) (b c : Drive) (r : ReadingView) → c.bytes ≡ b.bytes → HasRead cells b r → HasRead cells c r
 has_read-stays cells b c r kept read = record { legal = read.legal; state = read.state; count = read.count; room = read.room; begins = λ xs told. read.begins xs (sym kept ∙ told) }
 
 module _ (cells : List Cell) (drive : Drive) (old : ReadingView) (read : HasRead cells drive old) where
-  -- what is left of the piece is given up, or another one takes its place
+  -- The rest of the piece is dropped, or another piece replaces it.
   pub emptied : HasRead cells drive (record old { rest = [] })
   emptied = record {
     legal = read.legal;
@@ -119,7 +119,7 @@ module _ (cells : List Cell) (drive : Drive) (old : ReadingView) (read : HasRead
     begins = λ xs told. let at = read.begins xs told in (at.0, old.rest ++ at.1, at.2);
   }
 
-  -- what stands behind the cells
+  -- The bytes after the cells.
   behind : (xs : List ℕ) (told : drive.bytes ≡ Some xs) → (drop (16 + 32 * old.number) xs ≡ old.rest ++ (read.begins xs told).1) × (length xs ≡ 16 + 32 * old.number + length (old.rest ++ (read.begins xs told).1))
   behind xs told =
       let at = read.begins xs told in
@@ -139,7 +139,7 @@ module _ (cells : List Cell) (drive : Drive) (old : ReadingView) (read : HasRead
         (at.0, drop (length rest) all, subst (λ (l : List ℕ). BeginsWith old.replay.version old.replay.width cells l xs) parts at.2);
   }
 
-  -- the next cell was passed
+  -- The next cell was processed.
   module _ (new : ReadingView) (walked : Walked) (on : PassesOn old new walked) where
     possible : is_possible_cell old.replay.width (state_of old.replay.width cells) walked.cell ≡ true
     possible = subst (λ (s : State). is_possible_cell old.replay.width s walked.cell ≡ true) read.state on.passes.possible
@@ -178,13 +178,13 @@ module _ (cells : List Cell) (drive : Drive) (old : ReadingView) (read : HasRead
       after = on.passes.after ∙ sym (placed_after old.replay.width (state_of old.replay.width cells) walked.cell possible) ∙ ap (λ (s : State). place_in s.world (object_of walked.cell)) (sym state_next);
     }
 
-  -- the commit byte at the front is clear
+  -- The commit byte at the front is clear.
   pub read_end : 1 ≤ length old.rest → slice_index old.rest 0 ≢ 1 → (xs : List ℕ) → drive.bytes ≡ Some xs → HoldsCells old.replay.version old.replay.width cells xs
   read_end some clear xs told =
       let at = read.begins xs told in
       holds_clear old.replay.version old.replay.width cells (old.rest ++ at.1) xs at.2 (omega (arith, some, length-append old.rest at.1)) (λ set. clear (sym (first_byte old.rest at.1 some) ∙ set))
 
-  -- the cell at the front is at fault
+  -- The cell at the front is faulty.
   pub read_fault : (e : OpenFault) → 1 ≤ length old.rest → HasAllThatIsLeft drive old → FailsAt old.replay.version old.replay.width old.most old.number old.replay.state old.rest e → FailsIn old.most drive old.replay e
   read_fault (fault.Damaged n why) some ready fails xs told oldest wanted =
       let at = read.begins xs told in
@@ -234,7 +234,7 @@ module _ (cells : List Cell) (drive : Drive) (old : ReadingView) (read : HasRead
   stop_behind fault.NotLog at = at
   stop_behind (fault.OldLog version width) at = at
 
--- a fault behind cells may be told of their log
+-- A fault after some cells is one that may be returned of their log.
 pub behind_may : (oldest : ℕ) (wanted : Option ℕ) (most number : ℕ) (e : OpenFault) → IsBehind most number e → MayTell oldest wanted most e
 behind_may oldest wanted most number fault.NotLog at = tt
 behind_may oldest wanted most number (fault.OldLog version width) at = absurd at
@@ -254,7 +254,7 @@ same_log-refl a b is = record {
   len = ap (λ (r : ReadingView). r.len) is;
 }
 
--- a call behind a piece that tells the next cell
+-- A call after a piece that decides the next cell.
 module _ (drive : Drive) (old mid : ReadingView) (filled : IsFilled drive old mid) where
   same_mid : SameLog old mid
   same_mid = record {
@@ -312,7 +312,7 @@ module _ (drive : Drive) (old mid : ReadingView) (filled : IsFilled drive old mi
         );
   }
 
--- a call that read no piece
+-- A call that read no piece.
 pub advances_not : (drive : Drive) (old new : ReadingView) (e : OpenFault) → IsEmptied old new → Stops drive old e → Advances drive old new (Err e)
 advances_not drive old new e is stops = subst (λ r. Advances drive old r (Err e)) (sym is) (record {
   same = record { version = refl; width = refl; most = refl; len = refl };
@@ -321,7 +321,7 @@ advances_not drive old new e is stops = subst (λ r. Advances drive old r (Err e
   tells = λ cells read. (emptied cells drive old read, stop_behind cells drive old read e stops.0, stops.1 cells read);
 })
 
--- a piece that was read is the front of what stands behind the cells
+-- A piece that was read is the front of the bytes after the cells.
 pub filled_by : (drive : Drive) (old : ReadingView) (buffer : List ℕ) (got : ℕ) → ReadsPiece drive (16 + 32 * old.number) (min 65537 (old.len - (16 + 32 * old.number))) buffer got → length buffer ≡ 65537 → 1 ≤ got → 17 + 32 * old.number ≤ old.len
     → IsFilled drive old (record old { rest = take got buffer })
 filled_by drive old buffer got reads long some room =
@@ -333,7 +333,7 @@ filled_by drive old buffer got reads long some room =
       keeps = λ cells read. refilled cells drive old read (take got buffer) (λ xs told. (reads.1 xs told).1 ∙ ap (λ n. take n (drop (16 + 32 * old.number) xs)) (sym size));
     }
 
--- a read into the front of a buffer
+-- A read into the front of a buffer.
 pub piece_read : (drive : Drive) (at room most : ℕ) (buffer into rest : List ℕ) (result : Result ℕ DiskFault) → most ≡ room → length (take room buffer) ≡ room → length into ≡ length (take room buffer) → Reads drive at (take room buffer) into result
     → IfOk result (ReadsPiece drive at most (into ++ rest))
 piece_read drive at room most buffer into rest (Ok n) is long same reads = (
@@ -344,13 +344,13 @@ piece_read drive at room most buffer into rest (Ok n) is long same reads = (
 )
 piece_read drive at room most buffer into rest (Err e) is long same reads = tt
 
--- what is left of a piece
+-- The rest of a piece.
 pub rest_is : (at filled : ℕ) (items all : List ℕ) → at ≤ filled → all ≡ items → take (filled - at) (drop at all) ≡ drop at (take filled items)
 rest_is at filled items all le is =
     let whole : at + (filled - at) ≡ filled = omega (arith, le) in
     ap (λ (l : List ℕ). take (filled - at) (drop at l)) is ∙ sym (drop-take at (filled - at) items) ∙ ap (λ n. drop at (take n items)) whole
 
--- a fault that is passed on
+-- A fault that is passed on.
 pub walks_err : (old new : ReadingView) (e : OpenFault) (result : Result (Option Walked) OpenFault) → IsErrAnd result (λ x. x ≡ e) → WalksOn old new (Err e) → WalksOn old new result
 walks_err old new e (Ok x) same on = absurd same
 walks_err old new e (Err x) same on = subst (λ f. WalksOn old new (Err f)) (sym same) on
@@ -359,7 +359,7 @@ pub advances_err : (drive : Drive) (old new : ReadingView) (e : OpenFault) (resu
 advances_err drive old new e (Ok x) same is stops = absurd same
 advances_err drive old new e (Err x) same is stops = subst (λ f. Advances drive old new (Err f)) (sym same) (advances_not drive old new e is stops)
 
--- what was read takes the place of a whole buffer
+-- What was read replaces a whole buffer.
 pub same_items : (n : ℕ) (new old : List ℕ) → length new ≡ 65537 → length old ≡ 65537 → 65537 ≤ n → take n (new ++ drop (length new) old) ≡ new
 same_items n new old long before room =
     ap (λ (l : List ℕ). take n (new ++ l)) (drop_all (length new) old (omega (arith, long, before))) ∙ ap (take n) (append-nil new) ∙ take_all n new (omega (arith, long, room))

@@ -24,7 +24,7 @@ all_if : (P : OpenSplit → Type 0) (b : Bool) (s : OpenSplit) (splits : List Op
 all_if P true s splits holds all = (holds refl, all)
 all_if P false s splits holds all = all
 
--- what holds of each that is left
+-- What holds of each split that is left.
 all_left : (P Q : OpenSplit → Type 0) (p : OpenSplit → Bool) (splits : List OpenSplit) → ((s : OpenSplit) → p s ≡ true → P s → Q s) → AllByRecursion P splits → AllByRecursion Q (filter p splits)
 all_left P Q p [] gives all = tt
 all_left P Q p (s ∷ splits) gives all = all_if Q (p s) s (filter p splits) (λ left. gives s left all.0) (all_left P Q p splits gives all.1)
@@ -33,7 +33,7 @@ pub all_push : {A : Type 0} (P : A → Type 0) (xs : List A) (x : A) → AllByRe
 all_push P [] x all holds = (holds, tt)
 all_push P (y ∷ xs) x all holds = (all.0, all_push P xs x all.1 holds)
 
--- what holds of the split that is found by its number
+-- What holds of the split that is found by its number.
 all_found : (P : OpenSplit → Type 0) (splits : List OpenSplit) (number : ℕ) (name : List Bool) → AllByRecursion P splits → split_name splits number ≡ Some name → P (record { number = number; name = name })
 all_found P [] number name all found = cc
 all_found P (s ∷ splits) number name all found = elim (cases_Bool (s.number == number)) [
@@ -55,7 +55,7 @@ module _ (version width begun : ℕ) (leaves : List MarkedLeaf) where
   below [] all number le = tt
   below (s ∷ splits) all number le = (omega (arith, all.0.number, le), below splits all.1 number le)
 
-  -- a split of a name is the one last begun of its leaf
+  -- The open split of a name is the one that was last begun of its leaf.
   pub without_name-split : (splits : List OpenSplit) (name : List Bool) (earlier : ℕ) → split_at leaves name ≡ Some earlier → AllByRecursion (IsOpen width begun leaves) splits
       → without_name name splits ≡ without_split earlier name splits
   without_name-split [] name earlier mark all = refl
@@ -68,7 +68,7 @@ module _ (version width begun : ℕ) (leaves : List MarkedLeaf) where
         | inr e ↦ grind (arith, nat_tests, common_steps)
       ]
 
-  -- splits that end leave a replay
+  -- Splits that end leave a replay.
   pub IsReplay-filter : (p : OpenSplit → Bool) (splits : List OpenSplit) → IsReplay version width begun leaves splits → IsReplay version width begun leaves (filter p splits)
   IsReplay-filter p splits replay = record {
     version_is = replay.version_is;
@@ -77,7 +77,7 @@ module _ (version width begun : ℕ) (leaves : List MarkedLeaf) where
     each = all_left (IsOpen width begun leaves) (IsOpen width begun leaves) p splits (λ s left holds. holds) replay.each;
   }
 
-  -- a split is begun of a leaf, and an earlier one of it is ended
+  -- A split of a leaf is begun, and an earlier one of that leaf ends.
   pub IsReplay-begun : (splits : List OpenSplit) (name : List Bool) (earlier number : ℕ) → IsReplay version width begun leaves splits → split_at leaves name ≡ Some earlier → length name + width ≤ 64 → number ≡ begun + 1
       → IsReplay version width number (with_begun name number leaves) (without_name name splits ++ record { number = number; name = name } ∷ [])
   IsReplay-begun splits name earlier number replay mark short next =
@@ -95,7 +95,7 @@ module _ (version width begun : ℕ) (leaves : List MarkedLeaf) where
             (record { mark = split_at-begun leaves name number (leaf_marked leaves name earlier mark); short = short; number = omega arith });
       }
 
-  -- a split is ended, and marks of other leaves are kept
+  -- A split ends, and the other leaves keep their marks.
   pub IsReplay-installed : (splits : List OpenSplit) (name : List Bool) (number : ℕ) (new : List MarkedLeaf) → IsReplay version width begun leaves splits → split_name splits number ≡ Some name → KeepsMarks name leaves new
       → IsReplay version width begun new (without_number number splits)
   IsReplay-installed splits name number new replay found keeps =
@@ -112,7 +112,7 @@ module _ (version width begun : ℕ) (leaves : List MarkedLeaf) where
         each = all_left (IsOpen width begun leaves) (IsOpen width begun new) (λ s. not (s.number == number)) splits old replay.each;
       }
 
-  -- the leaf of a split that is found
+  -- The leaf of a split that is found.
   pub found_open : (splits : List OpenSplit) (name : List Bool) (number : ℕ) → IsReplay version width begun leaves splits → split_name splits number ≡ Some name → IsOpen width begun leaves (record { number = number; name = name })
   found_open splits name number replay found = all_found (IsOpen width begun leaves) splits number name replay.each found
 
@@ -120,7 +120,7 @@ and_false : (a : Bool) {b : Bool} → b ≡ false → (a && b) ≡ false
 and_false true e = e
 and_false false e = refl
 
--- a begin that isn't possible, and one that is
+-- A begin that isn't possible, and one that is.
 pub refuses_no_leaf : (width number : ℕ) (name : List Bool) (s : State) → is_leaf s.leaves name ≡ false → Steps width s s (Begin number name) (Err Impossible)
 refuses_no_leaf width number name s none = record { done = tt; refused = λ _. and_false (number == s.begun + 1) (ap (λ b. b && nat_le (length name + width) 64) none); kept = refl }
 

@@ -1,4 +1,4 @@
--- A map from the numbers of splits to their names, and the list of open splits that it stands for.
+-- A map from the numbers of splits to their names, and the list of open splits that it represents.
 use Rattle.std.proofs.Common.{◌≡◌, ℕ, ◌<◌, ◌≤◌, Bool, true, false, cond, inl, inr, Option, List, [], ◌∷◌, ◌++◌, Some, refl, sym, ap, ◌∙◌, arith}
 use Rattle.std.specs.Prelude.{◌==◌}
 use Rattle.std.specs.Ordering.{nat_cmp}
@@ -76,7 +76,7 @@ without_split-absent number name (s ∷ splits) above =
     let lt : number < s.number = above.0 in
     grind (arith, nat_tests, common_steps)
 
--- a number is that of one split at most
+-- A number belongs to at most one split.
 pub without_split-there : (number : ℕ) (name : List Bool) (splits : List OpenSplit) → IsRisingSplits splits → split_name splits number ≡ Some name → without_split number name splits ≡ without_number number splits
 without_split-there number name [] rising found = refl
 without_split-there number name (s ∷ splits) rising found = elim (cases_eq s.number number) [
@@ -123,7 +123,7 @@ without_number-push earlier new (s ∷ splits) lt =
     let rest : without_number earlier (splits ++ new ∷ []) ≡ without_number earlier splits ++ new ∷ [] = without_number-push earlier new splits lt in
     grind (arith, nat_tests, common_steps)
 
--- a split takes the place of an earlier one of its name
+-- A split replaces an earlier one of the same name.
 pub begun_again : (earlier number : ℕ) (name : List Bool) (splits pushed new : List OpenSplit) → IsRisingSplits splits → AreBelow number splits → split_name splits earlier ≡ Some name
     → pushed ≡ splits ++ record { number = number; name = name } ∷ [] → new ≡ without_number earlier pushed → new ≡ without_split earlier name splits ++ record { number = number; name = name } ∷ []
 begun_again earlier number name splits pushed new rising below found push left =

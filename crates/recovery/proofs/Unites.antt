@@ -1,4 +1,4 @@
--- A leaf that was halved is put back in the place of its halves.
+-- A leaf that was halved replaces its halves again.
 use Rattle.std.proofs.Common.{◌≡◌, ℕ, ◌+◌, ◌-◌, ◌<◌, ◌≤◌, Bool, true, false, inl, inr, List, [], ◌∷◌, ◌++◌, length, map, Option, Some, None, is_some, refl, sym, ◌∙◌, ap, arith}
 use Rattle.std.specs.Prelude.{◌||◌}
 use Rattle.std.specs.Option.{unwrap_or}
@@ -18,14 +18,14 @@ use Rattle.recovery.specs.declared.leaf_map.MarkedLeaf.{MarkedLeaf}
 use Rattle.recovery.specs.LeafMap.{leaves_of, IsLeafMap, keyed, names_of, split_at, halved, new_leaf, HasHalved}
 use Rattle.recovery.proofs.LeafMaps.{same, one, differs, no_half, rest_leaf, first_key-next, tile_rest, leaf_from, leaf_marked, is_leaf-marked}
 
--- the other leaves stand before a leaf that isn't the first
+-- The other leaves begin before a leaf that isn't the first.
 first_before : (k : ℕ) (l : MarkedLeaf) (leaves : List MarkedLeaf) (name : List Bool) (mark : ℕ) → tiles_from k (names_of (l ∷ leaves)) ≡ true → same_name l.name name ≡ false → split_at (l ∷ leaves) name ≡ Some mark
     → (split_at leaves name ≡ Some mark) × (first_key l.name < first_key name)
 first_before k l leaves name mark tile other marked =
     let rest : split_at leaves name ≡ Some mark = grind (arith, common_steps) in
     (rest, omega (arith, first_key-next l.name, leaf_from (next_key l.name) leaves name (tile_rest k l leaves tile) (leaf_marked leaves name mark rest)))
 
--- without the second half, and with the leaf in the place of the first
+-- Remove the second half, and replace the first half by the leaf.
 pub unites : (k : ℕ) (leaves : List MarkedLeaf) (name : List Bool) (mark : ℕ) → length name + 1 ≤ 64 → tiles_from k (names_of leaves) ≡ true → split_at leaves name ≡ Some mark
     → insert_entry nat_cmp (remove_entry (is_at (nat_cmp (first_key (name ++ true ∷ [])))) (map keyed (halved name leaves))) (first_key name) (record { name = name; split = mark }) ≡ map keyed leaves
 unites k [] name mark room tile marked = cc
@@ -48,7 +48,7 @@ unites k (l ∷ leaves) name mark room tile marked =
           grind (arith, nat_tests, common_steps)
     ]
 
--- the first half is found at the leaf's first key, once the second is gone
+-- After the second half was removed, the first half is at the leaf's first key.
 pub first_found : (k : ℕ) (leaves : List MarkedLeaf) (name : List Bool) (mark : ℕ) → length name + 1 ≤ 64 → tiles_from k (names_of leaves) ≡ true → split_at leaves name ≡ Some mark
     → lookup (is_at (nat_cmp (first_key name))) (remove_entry (is_at (nat_cmp (first_key (name ++ true ∷ [])))) (map keyed (halved name leaves))) ≡ Some (new_leaf (name ++ false ∷ []))
 first_found k [] name mark room tile marked = cc
@@ -65,7 +65,7 @@ first_found k (l ∷ leaves) name mark room tile marked =
           grind (arith, nat_tests, common_steps)
     ]
 
--- so the entries of the halves become those of the leaves
+-- The entries of the halves become those of the leaves.
 pub united : (leaves halves : List MarkedLeaf) (name : List Bool) (mark : ℕ) (entries removed new : List (ℕ × MarkedLeaf)) → HasHalved name mark leaves halves → IsLeafMap entries → leaves_of entries ≡ halves
     → removed ≡ remove_entry (is_at (nat_cmp (first_key (name ++ true ∷ [])))) entries
     → ((old : MarkedLeaf) → lookup (is_at (nat_cmp (first_key name))) removed ≡ Some old → new ≡ insert_entry nat_cmp removed (first_key name) (record { name = name; split = mark }))
@@ -78,7 +78,7 @@ united leaves halves name mark entries removed new h is view left inserted =
     ∙ ap (λ (es : List (ℕ × MarkedLeaf)). insert_entry nat_cmp es (first_key name) (record { name = name; split = mark })) gone
     ∙ unites 0 leaves name mark room h.tile h.mark
 
--- no split was begun of a half
+-- No split of a half was begun.
 pub half_mark : (k : ℕ) (leaves : List MarkedLeaf) (name : List Bool) → length name + 1 ≤ 64 → tiles_from k (names_of leaves) ≡ true → is_leaf (names_of leaves) name ≡ true → split_at (halved name leaves) (name ++ false ∷ []) ≡ Some 0
 half_mark k [] name room tile leaf = absurd (true≢false (sym leaf))
 half_mark k (l ∷ leaves) name room tile leaf =
@@ -92,7 +92,7 @@ half_mark k (l ∷ leaves) name room tile leaf =
           grind (arith, common_steps)
     ]
 
--- a leaf has a mark
+-- A leaf has a mark.
 pub has_mark : (leaves : List MarkedLeaf) (name : List Bool) (mark : Option ℕ) → is_leaf (names_of leaves) name ≡ true → mark ≡ split_at leaves name → split_at leaves name ≡ Some (unwrap_or mark 0)
 has_mark leaves name mark leaf is = sym is ∙ by_case mark (ap is_some is ∙ sym (is_leaf-marked leaves name) ∙ leaf)
   where

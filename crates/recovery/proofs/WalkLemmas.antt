@@ -1,4 +1,4 @@
--- What calls on a reading say of the log: of the next cell, and of all.
+-- What calls on a reading say about the log: about the next cell, and about all cells.
 use Rattle.std.proofs.Common.{◌≡◌, ℕ, ◌≤◌, List, [], ◌∷◌, ◌++◌, length, Option, Some, None, sym, ◌∙◌, ap, subst, arith, length-append, lit≤}
 use Rattle.std.specs.Prelude.{Result, Ok, Err}
 use Rattle.cell_format.specs.Spelling.{IsVersion}
@@ -21,7 +21,7 @@ use Rattle.recovery.proofs.HeadLemmas.{index_version, header_is_log}
 use Rattle.recovery.proofs.OnlyReading.{stays-trans}
 use Rattle.recovery.proofs.ReadingLemmas.{has_read-stays, same_log-trans}
 
--- all cells of a log, one after the other
+-- All cells of a log, one after the other.
 module _ (before now after : Drive) (first r new : ReadingView) (way : IsOnWay before now first r) (stays : Stays now after) (file : SameFile now after) where
   pub way_on : (walked : Walked) → Advances now r new (Ok (Some walked)) → after.faults ≡ now.faults → IsOnWay before after first new
   way_on walked adv calm = record {
@@ -59,7 +59,7 @@ module _ (before now after : Drive) (first r new : ReadingView) (way : IsOnWay b
         (length so_far.0, subst (λ m. IsBehind m (length so_far.0) e) way.same.most (adv.tells so_far.0 (has_read-stays so_far.0 before now r way.stays.bytes so_far.1)).1);
   }
 
--- what is found in a log that was read to its end
+-- What is found in a log that was read to its end.
 pub found_read : (oldest w most len : ℕ) (a b : Drive) (first r : ReadingView) (seen : Seen) → Starts oldest w most a first → b.bytes ≡ a.bytes → ReadsAll b first r → IsSeenOf r seen → len ≡ r.len → IsFoundIn oldest w most a seen len
 found_read oldest w most len a b first r seen starts kept all shown whole =
     let read = all.reads [] (has_read-stays [] a b first kept starts.read) in
@@ -88,7 +88,7 @@ found_read oldest w most len a b first r seen starts kept all shown whole =
       whole = λ xs told. (read.1.begins xs (kept ∙ told)).0 ∙ sym whole;
     }
 
--- a call of a walk
+-- A call of a walk.
 module _ {D : Type 0} (w most : ℕ) (cells : List Cell) (old new : Drive) (walk next : WalkView D) (come : ComesTo w most cells old walk) (kept : new.bytes ≡ old.bytes) where
   comes_on : (all : List Cell) → HasRead all old next.reading → SameLog walk.reading next.reading → length all ≤ most → ComesTo w most all new next
   comes_on all read same few = record {
@@ -124,7 +124,7 @@ module _ {D : Type 0} (w most : ℕ) (cells : List Cell) (old new : Drive) (walk
         λ xs is. subst (λ m. IsFault 1 (Some w) m xs e) come.most_is (subst (λ n. IsFault 1 (Some n) walk.reading.most xs e) come.width (told.2 xs is 1 come.wanted)),
       )
 
--- what the bytes show is what is told
+-- The fault that the bytes show is the one that is returned.
 module _ {D : Type 0} (w most : ℕ) (cells : List Cell) (old new : Drive) (next : WalkView D) (bytes : List ℕ) (known : old.bytes ≡ Some bytes) where
   pub tells_fault : (f : OpenFault) (result : Result (Option Walked) OpenFault) → length cells ≤ most → IsInBytes f → IsFault 1 (Some w) most bytes f → OnlyReads old new result → TellsWalked w most cells old new next result → TellsFault f old new result
   tells_fault f (Ok (Some walked)) few shown is reads told = tt
@@ -140,7 +140,7 @@ module _ {D : Type 0} (w most : ℕ) (cells : List Cell) (old new : Drive) (next
   tells_all all (Err e) recovers few reads told =
       told_free 1 w most (lit≤ tt) bytes old new e all (told.2 bytes known) (λ disk. reads.failed (ap (λ x. Err x) disk)) recovers (recovers_wanted w all bytes recovers) few
 
--- a log that is begun has a head
+-- A log whose reading began has a head.
 pub first_header : (oldest w most : ℕ) (drive : Drive) (r : ReadingView) (bytes : List ℕ) → Starts oldest w most drive r → drive.bytes ≡ Some bytes → HasHeader r.replay.version w bytes
 first_header oldest w most drive r bytes starts known =
     let at = starts.read.begins bytes known in
@@ -150,7 +150,7 @@ first_header oldest w most drive r bytes starts known =
       long = omega (arith, starts.long, at.0);
     }
 
--- and no fault in it
+-- The head of such a log has no fault.
 pub head_is_good : (w most : ℕ) (drive : Drive) (r : ReadingView) (bytes : List ℕ) (f : OpenFault) → Starts 1 w most drive r → drive.bytes ≡ Some bytes → IsInBytes f → IsOfHead f → IsFault 1 (Some w) most bytes f → ⊥
 head_is_good w most drive r bytes f starts known shown head is = by_fault f shown head is
   where

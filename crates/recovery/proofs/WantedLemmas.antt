@@ -1,4 +1,4 @@
--- What is at fault in a log that is wanted, by its width or by the width that it has.
+-- The faults of a wanted log, for a named width or for its own.
 use Rattle.std.proofs.Common.{◌≡◌, ℕ, ◌≤◌, ◌⊎◌, inl, inr, ⊎_elim, List, Option, Some, None, length, refl, sym, ◌∙◌, subst, lit≤, arith}
 use Rattle.std.specs.Prelude.{slice_index, IfSome}
 use Rattle.causes.specs.Causes.{Rose}
@@ -20,12 +20,12 @@ use Rattle.recovery.proofs.Exclusive.{one_fault, recovers_no_fault, told_free}
 use Rattle.recovery.proofs.WalkLemmas.{first_header}
 use Rattle.recovery.proofs.WidthLemmas.{has_width, recovers_width, fault_seen, fault_at}
 
--- the width of a log that is wanted is one that logs have
+-- The width of a wanted log is one that logs have.
 pub known_for : (wanted : Option ℕ) → IfSome wanted IsWidth → (w : ℕ) → IsWidthFor wanted w → IsWidth w
 known_for (Some v) known w same = subst IsWidth same known
 known_for None known w is = is
 
--- a log of which the reading has begun names its width
+-- A log whose reading began names its width.
 pub starts_width : (oldest : ℕ) (wanted : Option ℕ) (most : ℕ) (drive : Drive) (r : ReadingView) → 1 ≤ oldest → StartsFor oldest wanted most drive r → IsWidthOf drive r.replay.width
 starts_width oldest wanted most drive r least begun = record {
   known = begun.known;
@@ -34,7 +34,7 @@ starts_width oldest wanted most drive r least begun = record {
 }
 
 module _ (oldest most : ℕ) (bytes : List ℕ) where
-  -- what is at fault for whoever knows the width is at fault in a log of that width, where it is wanted, and the other way round
+  -- A log of a wanted width has a fault for the named width if and only if it has that fault for the wanted ones.
   pub fault_for : (wanted : Option ℕ) (w : ℕ) → IsWidthFor wanted w → HasWidth w bytes → (e : OpenFault) → IsFault oldest (Some w) most bytes e → IsFault oldest wanted most bytes e
   fault_for (Some v) w same has e is = subst (λ n. IsFault oldest (Some n) most bytes e) (sym same) is
   fault_for None w known has e is = fault_seen oldest most bytes w has e is
@@ -44,7 +44,7 @@ module _ (oldest most : ℕ) (bytes : List ℕ) where
   for_width None w known has e is = fault_at oldest most bytes w has e is
 
   module _ (least : 1 ≤ oldest) where
-    -- bytes show one fault at most
+    -- Bytes show at most one fault.
     one_own : (e f : OpenFault) → IsInBytes e → IsInBytes f → IsFault oldest None most bytes e → IsFault oldest None most bytes f → e ≡ f
     one_own fault.NotLog fault.NotLog se sf a b = refl
     one_own fault.NotLog (fault.OldLog version width) se sf a b = absurd (b.is_log a)
@@ -68,7 +68,7 @@ module _ (oldest most : ℕ) (bytes : List ℕ) where
     one_for None e f se sf a b = one_own e f se sf a b
 
     module _ (wanted : Option ℕ) (old new : Drive) where
-      -- an answer that isn't free is the one fault
+      -- A result that isn't free is the one fault.
       pub told_for : (e f : OpenFault) → IsFault oldest wanted most bytes e → (e ≡ fault.Disk → Rose old.faults new.faults) → IsInBytes f → IsFault oldest wanted most bytes f → (e ≡ f) ⊎ IsFree old new e
       told_for fault.Disk f holds rose shown is = inr (inr (rose refl))
       told_for fault.Memory f holds rose shown is = inr (inl refl)
@@ -78,17 +78,17 @@ module _ (oldest most : ℕ) (bytes : List ℕ) where
       told_for (fault.TooLong limit) f holds rose shown is = inl (one_for wanted (fault.TooLong limit) f tt shown holds is)
 
       module _ (w : ℕ) (fits : IsWidthFor wanted w) where
-        -- where the bytes recover to few enough cells it is free
+        -- If the bytes recover to few enough cells, the result is free.
         pub free_for : (cells : List Cell) (e : OpenFault) → IsWidth w → IsFault oldest wanted most bytes e → (e ≡ fault.Disk → Rose old.faults new.faults) → Recovers w cells bytes → IsWanted oldest (slice_index bytes 8) → length cells ≤ most → IsFree old new e
         free_for cells e known holds rose recovers named few =
             told_free oldest w most least bytes old new e cells (for_width wanted w fits (recovers_width w cells bytes known recovers) e holds) rose recovers named few
 
-    -- and nothing is at fault
+    -- Such bytes have no fault.
     pub sound_for : (wanted : Option ℕ) (w : ℕ) → IsWidthFor wanted w → (cells : List Cell) (f : OpenFault) → IsWidth w → Recovers w cells bytes → IsWanted oldest (slice_index bytes 8) → length cells ≤ most → IsInBytes f → IsFault oldest wanted most bytes f → ⊥
     sound_for wanted w fits cells f known recovers named few shown is =
         recovers_no_fault oldest w most least bytes cells f recovers named few shown (for_width wanted w fits (recovers_width w cells bytes known recovers) f is)
 
--- where the head names a width that is wanted, what is told of it is free
+-- If the head names a wanted width, a fault of the head is a free result.
 pub head_free : (most w : ℕ) (bytes : List ℕ) (old new : Drive) (e : OpenFault) → HasWidth w bytes → IsOfHead e → IsFault 1 (Some w) most bytes e → (e ≡ fault.Disk → Rose old.faults new.faults) → IsFree old new e
 head_free most w bytes old new fault.NotLog has head is rose = absurd (has.is_log is)
 head_free most w bytes old new (fault.OldLog version width) has head is rose = absurd (⊎_elim
@@ -99,7 +99,7 @@ head_free most w bytes old new (fault.TooLong limit) has head is rose = absurd h
 head_free most w bytes old new fault.Disk has head is rose = inr (rose refl)
 head_free most w bytes old new fault.Memory has head is rose = inl refl
 
--- what was found in a log that is wanted, and why none is read
+-- What was found in a wanted log, and why none is read.
 pub finds_wanted : (oldest : ℕ) (wanted : Option ℕ) (most : ℕ) (drive : Drive) (w : ℕ) (seen : Seen) → 1 ≤ oldest → IsWidthOf drive w → IsWidthFor wanted w → IsFound oldest w most drive seen
     → FindsWanted oldest wanted most drive w seen
 finds_wanted oldest wanted most drive w seen least width fits found = record {
@@ -125,6 +125,6 @@ refuses_walk wanted most old new e shows head may rose = record {
   named = λ bytes w told fits has. head_free most w bytes old new e has head (for_width 1 most bytes wanted w fits has e (shows bytes told)) rose;
 }
 
--- the newest version is wanted by whoever opens
+-- The newest version is wanted by every opening.
 pub newest_wanted : (v : ℕ) → v ≡ newest → IsWanted newest v
 newest_wanted v is = record { least = omega (arith, is); most = omega (arith, is) }

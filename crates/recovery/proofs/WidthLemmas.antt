@@ -1,4 +1,4 @@
--- What the head of a file tells: its width, or one fault.
+-- What the head of a file shows: its width, or one fault.
 use Rattle.std.proofs.Common.{◌≡◌, ℕ, inl, ⊎_elim, List, Option, Some, None, length, sym, ◌∙◌, ap, subst, arith}
 use Rattle.std.specs.Prelude.{slice_index}
 use Rattle.disk_trait.specs.Drive.{Drive}
@@ -25,11 +25,11 @@ module _ (v w : ℕ) (bytes : List ℕ) (has : HasHeader v w bytes) where
   pub has_width : IsWanted 1 v → IsWidth w → HasWidth w bytes
   has_width wanted known = record { is_log = header_is_log v w bytes has; version = subst (IsWanted 1) version_there wanted; named = width_there; known = known }
 
-  -- a log that isn't wanted is at fault
+  -- A log that isn't wanted is a fault.
   pub is_other : (oldest : ℕ) (wanted : Option ℕ) (most : ℕ) → IsOtherFor oldest wanted v w → IsFault oldest wanted most bytes (fault.OldLog v w)
   is_other oldest wanted most other = record { is_log = header_is_log v w bytes has; version_is = version_there; width_is = width_there; other = other }
 
--- why no head was read is at fault in the bytes
+-- The reason why no head was read is a fault in the bytes.
 pub fails_head : (oldest : ℕ) (wanted : Option ℕ) (drive : Drive) (e : OpenFault) → FailsHead drive e → RefusesHead oldest wanted drive e
 fails_head oldest wanted drive fault.NotLog fails = record { shows = λ bytes told most. fails bytes told; head = tt; may = λ most. tt; sound = λ other. cc other }
 fails_head oldest wanted drive (fault.OldLog version width) fails = absurd fails
@@ -38,7 +38,7 @@ fails_head oldest wanted drive (fault.TooLong limit) fails = absurd fails
 fails_head oldest wanted drive fault.Disk fails = record { shows = λ bytes told most. tt; head = tt; may = λ most. tt; sound = λ other. cc other }
 fails_head oldest wanted drive fault.Memory fails = absurd fails
 
--- bytes that recover to cells of a width that logs have
+-- Bytes that recover to cells of a width that logs have.
 pub recovers_width : (w : ℕ) (cells : List Cell) (bytes : List ℕ) → IsWidth w → Recovers w cells bytes → HasWidth w bytes
 recovers_width w cells bytes known recovers =
     let wanted : IsWanted 1 (slice_index bytes 8) = recovers_wanted w cells bytes recovers in
@@ -49,12 +49,12 @@ recovers_width w cells bytes known recovers =
       known = known;
     }
 
--- a log has one width
+-- A log has one width.
 pub same_width : (v w : ℕ) (bytes : List ℕ) → HasWidth v bytes → HasWidth w bytes → v ≡ w
 same_width v w bytes has also = has.named ∙ sym also.named
 
 module _ (oldest most : ℕ) (bytes : List ℕ) where
-  -- what is at fault for whoever knows the width
+  -- A fault for this width is a fault for either width.
   pub fault_seen : (w : ℕ) → HasWidth w bytes → (e : OpenFault) → IsFault oldest (Some w) most bytes e → IsFault oldest None most bytes e
   fault_seen w has fault.NotLog is = is
   fault_seen w has (fault.OldLog version width) is = record {

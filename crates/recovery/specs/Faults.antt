@@ -1,4 +1,4 @@
--- The first place at fault in the bytes of a log that is wanted, and why it isn't read.
+-- The first fault in the bytes of a wanted log, and why the log isn't read.
 use Rattle.std.specs.Prelude.{◌≡◌, ◌⊎◌, ℕ, ◌<◌, ◌≤◌, false, List, ◌++◌, length, take, slice_index, Option, Some, None, ⊤}
 use Rattle.std.specs.List.{AllByRecursion}
 use Rattle.cell_format.specs.declared.cell.Cell.{Cell}
@@ -19,13 +19,13 @@ use Rattle.recovery.specs.Widths.{HasWidth}
 use Rattle.zorder.specs.Width.{IsWidth}
 pub use Rattle.recovery.specs.Widths.{HasOtherHead, IsNotLog}
 
--- the bytes begin with a header of this version and width and these cells, which are legal, and this stands behind them
+-- The bytes begin with a header of this version and width. These cells follow, which are legal, and then this tail.
 pub record BeginsWith (version w : ℕ) (cells : List Cell) (tail bytes : List ℕ) : Type 0 where
   pub cells_fit : AllByRecursion (IsCell version) cells
   pub legal : IsLegalCells w cells
   pub parts : bytes ≡ front_of version w cells ++ tail
 
--- what is wrong with the cell at the front of these bytes, whose commit byte is set, in this version and at a state
+-- What is wrong with the cell at the front of these bytes, in this version and state. Its commit byte is set.
 abbrev pub IsWrong : ℕ → ℕ → State → List ℕ → Cause → Type 0
 IsWrong v w s tail cause.ShortCell = length tail < 33
 IsWrong v w s tail cause.Kind = (33 ≤ length tail) × HasNoKind (take 32 tail)
@@ -33,7 +33,8 @@ IsWrong v w s tail cause.Reserved = (33 ≤ length tail) × HasReserved v (take 
 IsWrong v w s tail cause.BadName = (33 ≤ length tail) × HasBadName v (take 32 tail)
 IsWrong v w s tail cause.Impossible = (33 ≤ length tail) × (next : Cell) × Spells v next (take 32 tail) × (is_possible_cell w s next ≡ false)
 
--- this cell is the first with its commit byte set that is short, has no spelling or is impossible, and its number is below most
+-- The cell is the first one with a set commit byte that is cut short, has no spelling or is impossible. Its number is
+-- below `most`.
 pub record IsDamaged (oldest w most : ℕ) (bytes : List ℕ) (number : ℕ) (why : Cause) : Type 0 where
   pub version : ℕ
   pub wanted : IsWanted oldest version
@@ -45,7 +46,7 @@ pub record IsDamaged (oldest w most : ℕ) (bytes : List ℕ) (number : ℕ) (wh
   pub commit_byte : slice_index tail 0 ≡ 1
   pub wrong : IsWrong version w (state_of w cells) tail why
 
--- the first `most` cells are legal, and the next commit byte is set
+-- The first `most` cells are legal, and the next commit byte is set.
 pub record IsTooLong (oldest w most : ℕ) (bytes : List ℕ) : Type 0 where
   pub version : ℕ
   pub wanted : IsWanted oldest version
@@ -55,20 +56,20 @@ pub record IsTooLong (oldest w most : ℕ) (bytes : List ℕ) : Type 0 where
   pub place : length cells ≡ most
   pub commit_byte : slice_index tail 0 ≡ 1
 
--- a log of a version that isn't wanted, or of another width
+-- A log whose version isn't wanted, or which has another width.
 pub record IsOldLog (oldest : ℕ) (wanted : Option ℕ) (bytes : List ℕ) (version width : ℕ) : Type 0 where
   pub is_log : IsNotLog bytes → ⊥
   pub version_is : version ≡ slice_index bytes 8
   pub width_is : width ≡ slice_index bytes 9
   pub other : IsOtherFor oldest wanted version width
 
--- this is said of the width that is named, or where none is, of the one that the bytes have
+-- The predicate holds for the width that is named. If none is named, it holds for the width that the bytes have.
 abbrev pub OfWidth : Option ℕ → List ℕ → (ℕ → Type 0) → Type 0
 OfWidth (Some w) bytes P = P w
 OfWidth None bytes P = (w : ℕ) × HasWidth w bytes × P w
 
--- what is at fault in the bytes for whoever wants logs from this version on, of this width or of either, and of so many cells; that the drive failed or
--- memory ran out isn't seen there
+-- The fault is in the bytes, for a caller that wants versions from `oldest` on, this width or either, and at most
+-- `most` cells. The bytes say nothing about a failure of the drive or of memory.
 abbrev pub IsFault : ℕ → Option ℕ → ℕ → List ℕ → OpenFault → Type 0
 IsFault oldest wanted most bytes NotLog = IsNotLog bytes
 IsFault oldest wanted most bytes (OldLog version width) = IsOldLog oldest wanted bytes version width
@@ -77,7 +78,7 @@ IsFault oldest wanted most bytes (TooLong limit) = OfWidth wanted bytes (λ w. (
 IsFault oldest wanted most bytes Disk = ⊤
 IsFault oldest wanted most bytes Memory = ⊤
 
--- a fault that the bytes show
+-- A fault that the bytes show.
 abbrev pub IsInBytes : OpenFault → Type 0
 IsInBytes NotLog = ⊤
 IsInBytes (OldLog version width) = ⊤
@@ -86,7 +87,7 @@ IsInBytes (TooLong limit) = ⊤
 IsInBytes Disk = ⊥
 IsInBytes Memory = ⊥
 
--- a fault that is found before the first cell
+-- A fault that is found before the first cell.
 abbrev pub IsOfHead : OpenFault → Type 0
 IsOfHead NotLog = ⊤
 IsOfHead (OldLog version width) = ⊤
@@ -95,16 +96,17 @@ IsOfHead (TooLong limit) = ⊥
 IsOfHead Disk = ⊤
 IsOfHead Memory = ⊤
 
--- this is at fault in the drive's bytes, where they are known
+-- If the drive's bytes are known, they have this fault.
 abbrev pub ShowsFault : ℕ → Option ℕ → ℕ → Drive → OpenFault → Type 0
 ShowsFault oldest wanted most drive e = (bytes : List ℕ) → drive.bytes ≡ Some bytes → IsFault oldest wanted most bytes e
 
--- nothing is
+-- If the drive's bytes are known, they have no fault.
 abbrev pub HasNoFault : ℕ → Option ℕ → ℕ → Drive → Type 0
 HasNoFault oldest wanted most drive = (bytes : List ℕ) (fault : OpenFault) → drive.bytes ≡ Some bytes → IsInBytes fault → IsFault oldest wanted most bytes fault → ⊥
 
--- Why a log that is wanted isn't read: this is first at fault in the bytes, where they are known, and may be told where they aren't. What the bytes show
--- is what is told, and where they recover to few enough cells nothing of theirs, unless memory ran out or the drive failed.
+-- Why a wanted log isn't read. If the bytes are known, this is their first fault. `MayTell` holds in any case. A fault
+-- in the bytes is returned, and bytes that recover to few enough cells give no fault, unless memory ran out or the
+-- drive failed.
 pub record RefusesRead (oldest : ℕ) (wanted : Option ℕ) (most : ℕ) (old new : Drive) (e : OpenFault) : Type 0 where
   pub shows : ShowsFault oldest wanted most old e
   pub may : MayTell oldest wanted most e

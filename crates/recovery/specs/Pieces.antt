@@ -1,4 +1,4 @@
--- The cell at the front of a piece of a log, which begins with its commit byte.
+-- The cell at the front of a piece of a log. The piece begins with the commit byte of that cell.
 use Rattle.std.specs.Prelude.{◌≡◌, ◌≢◌, ℕ, ◌<◌, ◌≤◌, true, List, length, take, slice_index, Option, Some, None, Result, Ok, Err, ⊤}
 use Rattle.zorder.specs.declared.points.Point.{Point}
 use Rattle.cell_format.specs.declared.cell.Cell.{Cell}
@@ -18,7 +18,7 @@ use Rattle.recovery.specs.Replay.{ReplayView}
 use Rattle.recovery.specs.Room.{HasRoomAfter}
 use Rattle.recovery.specs.Walked.{object_of, place_in}
 
--- where the object of a cell is after it
+-- The position of a cell's object after the cell.
 abbrev pub place_after : Cell → Option Point
 place_after (cell.Put id at moment) = Some at
 place_after (cell.Move id at moment) = Some at
@@ -27,13 +27,13 @@ place_after (cell.Begin number name) = None
 place_after (cell.Install number) = None
 place_after (cell.Abandon number) = None
 
--- why a cell without a spelling is damaged
+-- Why a cell without a spelling is damaged.
 abbrev pub cause_of : CellFault → Cause
 cause_of fault.Kind = cause.Kind
 cause_of fault.Reserved = cause.Reserved
 cause_of fault.BadName = cause.BadName
 
--- the replay went over the cell at the front, which is possible there, and this is told of it
+-- The replay processed the cell at the front, which was possible, and `walked` is what it returned.
 pub record PassesCell (number : ℕ) (old new : ReplayView) (piece : List ℕ) (walked : Walked) : Type 0 where
   pub at : walked.at ≡ number
   pub long : 33 ≤ length piece
@@ -48,7 +48,7 @@ pub record PassesCell (number : ℕ) (old new : ReplayView) (piece : List ℕ) (
   pub after : walked.after ≡ place_after walked.cell
   pub grows : HasRoomAfter old.state new.state
 
--- the cell of this number, at the front of the piece, is at fault, for this reason
+-- The cell of this number, at the front of the piece, has this fault.
 abbrev pub FailsAt : ℕ → ℕ → ℕ → ℕ → State → List ℕ → OpenFault → Type 0
 FailsAt v w most number s piece (Damaged n why) = (n ≡ number) × (number < most) × (slice_index piece 0 ≡ 1) × IsWrong v w s piece why
 FailsAt v w most number s piece (TooLong m) = (m ≡ most) × (number ≡ most) × (slice_index piece 0 ≡ 1)
@@ -57,7 +57,8 @@ FailsAt v w most number s piece NotLog = ⊥
 FailsAt v w most number s piece (OldLog version width) = ⊥
 FailsAt v w most number s piece Disk = ⊥
 
--- a cell was passed, or the commit byte at the front is clear, or there is a fault: then nothing has changed
+-- A cell was processed, or the commit byte at the front is clear, or there is a fault. In the last two cases nothing
+-- changed.
 abbrev pub WalksFront : ℕ → ℕ → ReplayView → ReplayView → List ℕ → Result (Option Walked) OpenFault → Type 0
 WalksFront most number old new piece (Ok (Some walked)) = (number < most) × PassesCell number old new piece walked
 WalksFront most number old new piece (Ok None) = (new ≡ old) × (slice_index piece 0 ≢ 1)

@@ -1,4 +1,4 @@
--- The state of the cells so far, as it is kept.
+-- The state of the cells so far, as a replay keeps it.
 use Rattle.std.specs.Prelude.{◌≡◌, ℕ, ◌+◌, ◌≤◌, true, false, List, length, Option, Some, Result, IfOk, OnErr, Err}
 use Rattle.std.specs.List.{AllByRecursion}
 use Rattle.cell_format.specs.Spelling.{IsVersion}
@@ -14,13 +14,13 @@ use Rattle.recovery.specs.SplitMap.{IsRisingSplits}
 use Rattle.recovery.specs.LeafMap.{split_at}
 use Rattle.recovery.specs.Walked.{object_of, place_in}
 
--- the version of the log and the width of its splits, and the state
+-- The version of the log, the width of its splits, and the state.
 pub record ReplayView : Type 0 where
   pub version : ℕ
   pub width : ℕ
   pub state : State
 
--- an open split is the one last begun of its leaf, which may be split
+-- An open split is the one that was last begun of its leaf, and that leaf may be split.
 pub record IsOpen (width begun : ℕ) (leaves : List MarkedLeaf) (s : OpenSplit) : Type 0 where
   pub mark : split_at leaves s.name ≡ Some s.number
   pub short : length s.name + width ≤ 64
@@ -32,8 +32,8 @@ pub record IsReplay (version width begun : ℕ) (leaves : List MarkedLeaf) (spli
   pub rising : IsRisingSplits splits
   pub each : AllByRecursion (IsOpen width begun leaves) splits
 
--- a step by a cell: it is possible, the state is the one after it, and this is where its object was; or nothing has changed, and it isn't, or memory
--- ran out
+-- A cell was processed. It is possible, the new state is the one after it, and `before` is the position of its object.
+-- Or nothing changed: the cell is impossible, or memory ran out.
 pub record Steps (width : ℕ) (old new : State) (cell : Cell) (result : Result (Option Point) StepFault) : Type 0 where
   pub done : IfOk result (λ before. (is_possible_cell width old cell ≡ true) × (new ≡ step width old (entry_of cell)) × (before ≡ place_in old.world (object_of cell)))
   pub refused : result ≡ Err Impossible → is_possible_cell width old cell ≡ false

@@ -1,28 +1,28 @@
--- Room for the objects and the leaves of a state.
+-- Memory for the objects and the leaves of a state.
 use Rattle.std.specs.Prelude.{ℕ, ◌+◌, ◌≤◌, length}
 use Rattle.plain_list.specs.State.{State}
 
--- how many objects and how many leaves it can take
+-- How many objects and how many leaves the memory can take.
 pub record RoomView : Type 0 where
   pub members : ℕ
   pub leaves : ℕ
 
--- those of a state
+-- It can take those of the state.
 pub record HasRoom (s : State) (room : RoomView) : Type 0 where
   pub members : length s.world ≤ room.members
   pub leaves : length s.leaves ≤ room.leaves
 
--- and of each state after one cell more
+-- It can take those of each state after one more cell.
 pub record HasRoomForMore (s : State) (room : RoomView) : Type 0 where
   pub members : length s.world + 1 ≤ room.members
   pub leaves : length s.leaves + 3 ≤ room.leaves
 
--- no less room than before
+-- There is no less room than before.
 pub record IsNoLess (old new : RoomView) : Type 0 where
   pub members : old.members ≤ new.members
   pub leaves : old.leaves ≤ new.leaves
 
--- a state has at most an object and three leaves more than another
+-- The new state has at most one object and three leaves more than the old one.
 pub record HasRoomAfter (old new : State) : Type 0 where
   pub members : length new.world ≤ length old.world + 1
   pub leaves : length new.leaves ≤ length old.leaves + 3

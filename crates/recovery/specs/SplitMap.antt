@@ -4,28 +4,28 @@ use Rattle.std.specs.List.{filter}
 use Rattle.zorder.specs.SameName.{same_name}
 use Rattle.plain_list.specs.State.{OpenSplit}
 
--- an entry as an open split
+-- An entry as an open split.
 abbrev pub split_of : ℕ × List Bool → OpenSplit
 split_of e = record { number = e.0; name = e.1 }
 
 abbrev pub splits_of : List (ℕ × List Bool) → List OpenSplit
 splits_of entries = map split_of entries
 
--- each number is above this one
+-- Each number is above `n`.
 abbrev pub AreAbove : ℕ → List OpenSplit → Type 0
 AreAbove n [] = ⊤
 AreAbove n (s ∷ splits) = (n < s.number) × AreAbove n splits
 
--- each number is below this one
+-- Each number is below `n`.
 abbrev pub AreBelow : ℕ → List OpenSplit → Type 0
 AreBelow n [] = ⊤
 AreBelow n (s ∷ splits) = (s.number < n) × AreBelow n splits
 
--- the numbers rise
+-- The numbers rise.
 abbrev pub IsRisingSplits : List OpenSplit → Type 0
 IsRisingSplits [] = ⊤
 IsRisingSplits (s ∷ splits) = AreAbove s.number splits × IsRisingSplits splits
 
--- the splits but the one with this number and this name
+-- The splits without the one that has this number and this name.
 abbrev pub without_split : ℕ → List Bool → List OpenSplit → List OpenSplit
 without_split number name splits = filter (λ s. not ((s.number == number) && same_name s.name name)) splits

@@ -1,4 +1,4 @@
-//! Reads the head of a file: which version and which width its log has.
+//! Reads the head of a file: the version and the width of its log.
 ghost use Rattle.std.specs.Prelude.{◌≡◌, ◌≢◌, ◌⊎◌, ◌≤◌, ℕ, true, false, List, Some, None, length, take, drop, replicate, IfOk, IfErr, IfSome};
 ghost use Rattle.cell_format.specs.Spelling.{newest, header_text};
 ghost use Rattle.recovery.specs.declared.seen.OpenFault.{OpenFault};
@@ -16,14 +16,14 @@ use crate::wanted::{FIRST, NEWEST};
 use cell_format::header;
 use disk_trait::LogDisk;
 
-/// What the head of a log names.
+/// The version and the width that the head of a log names.
 #[derive(Clone, Copy)]
 pub(crate) struct Head {
     pub(crate) version: u8,
     pub(crate) width: u8,
 }
 
-/// The width that the head of a log of version 1 or 2 names, for whoever wants it alone.
+/// Returns the width that the head of a log of version 1 or 2 names. Use it if you need nothing else of the log.
 pub fn width_of<D: LogDisk>(disk: &mut D) -> Result<u8, OpenFault>
     ensures told { IfOk result (IsWidthOf (D.drive disk.old)) }
     ensures refused { IfErr result (λ e. (e ≢ Memory) × ((most : ℕ) → RefusesWalk None most (D.drive disk.old) (D.drive disk.new) e)) }
@@ -34,7 +34,7 @@ pub fn width_of<D: LogDisk>(disk: &mut D) -> Result<u8, OpenFault>
     Ok(head.width)
 }
 
-/// Reads the head of a file of this length.
+/// Reads the head of a file of `len` bytes.
 pub(crate) fn read_head<D: LogDisk>(disk: &mut D, len: u64) -> Result<Head, OpenFault>
     requires len { (xs : List ℕ) → (D.drive disk.old).bytes ≡ Some xs → length xs ≡ len }
 
@@ -59,8 +59,8 @@ pub(crate) fn read_head<D: LogDisk>(disk: &mut D, len: u64) -> Result<Head, Open
     })
 }
 
-/// Reads the head of a file of this length, where it is that of a log that is wanted: of this version or a later one, and of the width
-/// that is named, or where none is, of either width.
+/// Reads the head of a file of `len` bytes, if its log is wanted: of version `oldest` or later, and of the width that
+/// `wanted` names. `None` means either width.
 pub(crate) fn read_wanted<D: LogDisk>(
     disk: &mut D,
     len: u64,
@@ -79,7 +79,7 @@ pub(crate) fn read_wanted<D: LogDisk>(
 }
 
 impl Head {
-    /// The head, where it is that of a log that is wanted.
+    /// Returns the head if its log is wanted.
     fn wanted(self, oldest: u8, wanted: Option<u8>) -> Result<Head, OpenFault>
         ensures ok { IfOk result (λ h. (h ≡ self) × IsWanted oldest self.version × IsWidthFor wanted self.width) }
         ensures err { IfErr result (λ e. (e ≡ OldLog self.version self.width) × IsOtherFor oldest wanted self.version self.width) }
@@ -104,7 +104,7 @@ impl Head {
     }
 }
 
-/// Tells whether the letters and the zeros of a header stand there.
+/// Whether the file begins with the letters of a header and has its zeros.
 fn has_marks(head: &[u8; 16]) -> bool
     ensures yes { result ≡ true → (take 8 head.now ≡ take 8 (header_text newest 1)) × (take 6 (drop 10 head.now) ≡ replicate 6 0) }
     ensures no { result ≡ false → HasOtherHead head.now }

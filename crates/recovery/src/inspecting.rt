@@ -1,4 +1,4 @@
-//! Says what a log was found to say, and reads alone.
+//! Returns what a log records, without changing the file.
 ghost use Rattle.std.specs.Prelude.{◌≡◌, ◌⊎◌, ◌≤◌, ◌<◌, Some, None, OnOk, IfOk, IfErr, IfSome};
 ghost use Rattle.recovery.specs.Faults.{RefusesRead, ShowsFault};
 ghost use Rattle.recovery.specs.Reading.{FailsOn, ReadsAll, OnlyReads, FindsWanted, IsFoundFor};
@@ -12,7 +12,7 @@ use crate::wanted::{FIRST, Wanted};
 use disk_trait::LogDisk;
 use std::alloc::Global;
 
-/// What was found in a log, its width, and how long its file is.
+/// What a log records, its width, and the length of its file in bytes.
 #[derive(Drop)]
 pub(crate) struct Found {
     pub(crate) seen: Seen,
@@ -20,7 +20,8 @@ pub(crate) struct Found {
     pub(crate) len: u64,
 }
 
-/// The state after the cells of a log of version 1 or 2 that is wanted, and the width of its splits, which its head names.
+/// Returns the state after the cells of a wanted log of version 1 or 2, and the width of its splits. The head of the
+/// log names that width.
 pub fn inspect_log<D: LogDisk>(
     alloc: Global,
     disk: &mut D,
@@ -39,7 +40,7 @@ pub fn inspect_log<D: LogDisk>(
     })
 }
 
-/// The same of a log whose splits make `2 ^ width` children.
+/// The same as `inspect_log`, for a log whose splits create `2 ^ width` children.
 pub fn inspect<D: LogDisk>(
     alloc: Global,
     disk: &mut D,
@@ -57,7 +58,7 @@ pub fn inspect<D: LogDisk>(
     Ok(found.seen)
 }
 
-/// Reads the whole of a log that is wanted.
+/// Reads a wanted log to its end.
 pub(crate) fn read_log<D: LogDisk>(
     alloc: Global,
     disk: &mut D,
@@ -83,7 +84,7 @@ pub(crate) fn read_log<D: LogDisk>(
     })
 }
 
-/// Goes over all cells that are left.
+/// Reads all cells that are left.
 fn read_cells<D: LogDisk>(reading: &mut Reading, disk: &mut D) -> Result<(), OpenFault>
     ensures ok { OnOk result (ReadsAll (D.drive disk.old) reading.old reading.new) }
     ensures err { IfErr result (FailsOn (D.drive disk.old) reading.old) }

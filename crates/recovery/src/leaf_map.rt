@@ -1,4 +1,4 @@
-//! The leaves, each with the split last begun of it.
+//! The leaves, each with the number of the split that was last begun of it.
 ghost use Rattle.std.specs.Prelude.{◌≡◌, ◌⊎◌, ◌+◌, ◌≤◌, ◌<◌, ◌^◌, [], ◌∷◌, ◌++◌, List, length, true, false, Some, OnOk, OnErr, IfOk, vec_len, vec_capacity};
 ghost use Rattle.zorder.specs.Width.{IsWidth};
 ghost use Rattle.zorder.specs.Tile.{Tile};
@@ -12,14 +12,14 @@ use std::collections::BTreeMap;
 use std::marker::Model;
 use zorder::{Name, child};
 
-/// A leaf, and the number of the split last begun of it, 0 where there is none.
+/// A leaf, and the number of the split that was last begun of it. The number is 0 if there was none.
 #[derive(Clone, Copy)]
 pub(crate) struct MarkedLeaf {
     pub(crate) name: Name,
     pub(crate) split: u64,
 }
 
-/// The leaves by their first keys, which tile the key space: a list in the order of the keys.
+/// The leaves by their first keys. They tile the key space. Contracts see them as a list in the order of the keys.
 #[derive(Drop)]
 pub(crate) struct LeafMap {
     leaves: BTreeMap<u64, MarkedLeaf>,
@@ -48,7 +48,7 @@ impl LeafMap {
         Ok(LeafMap { leaves })
     }
 
-    /// The split last begun of the leaf with this name, where there is one.
+    /// The number of the split that was last begun of the leaf with this name, if there is such a leaf.
     pub(crate) fn split_at(&self, name: &Name) -> Option<u64>
         ensures { result ≡ split_at self.now name.now }
     {
@@ -60,7 +60,7 @@ impl LeafMap {
         }
     }
 
-    /// Notes a split begun of a leaf, and takes no memory.
+    /// Notes that a split of a leaf was begun. It takes no memory.
     pub(crate) fn begin(&mut self, name: Name, number: u64)
         requires { is_leaf (names_of self.old) name ≡ true }
         ensures { self.new ≡ with_begun name number self.old }
@@ -72,7 +72,7 @@ impl LeafMap {
         let _ = self.leaves.insert(name.bits(), leaf);
     }
 
-    /// Puts the two halves of a leaf in its place.
+    /// Replaces a leaf by its two halves.
     fn halve(&mut self, name: &Name) -> Result<(), AllocError>
         requires leaf { is_leaf (names_of self.old) name.now ≡ true }
         requires short { length name.now < 64 }
@@ -82,14 +82,14 @@ impl LeafMap {
     {
         let second = new_leaf(child(name, true));
         self.leaves.insert(second.name.bits(), second)?;
-        // Last, since it takes no memory: the first half stands at the leaf's own key.
+        // Last, because it takes no memory: the first half has the same key as the leaf.
         let _ = self
             .leaves
             .insert(name.bits(), new_leaf(child(name, false)));
         Ok(())
     }
 
-    /// Undoes `halve` for a leaf that had this mark, and takes no memory.
+    /// Undoes `halve` for a leaf that had the mark `split`. It takes no memory.
     fn unite(&mut self, name: &Name, split: u64)
         requires halved { (leaves : List MarkedLeaf) × HasHalved name.now split leaves self.old }
         ensures { (leaves : List MarkedLeaf) → HasHalved name.now split leaves self.old → self.new ≡ leaves }
@@ -99,7 +99,7 @@ impl LeafMap {
         let _ = self.leaves.insert(name.bits(), leaf);
     }
 
-    /// Puts the children of a leaf in its place, whose names have `width` bits more.
+    /// Replaces a leaf by its children, whose names have `width` more bits.
     pub(crate) fn split(&mut self, name: &Name, width: u8) -> Result<(), AllocError>
         requires leaf { is_leaf (names_of self.old) name.now ≡ true }
         requires width { IsWidth width }
@@ -116,7 +116,7 @@ impl LeafMap {
         }
     }
 
-    /// Puts the four quarters of a leaf in its place.
+    /// Replaces a leaf by its four quarters.
     fn quarter(&mut self, name: &Name) -> Result<(), AllocError>
         requires leaf { is_leaf (names_of self.old) name.now ≡ true }
         requires short { length name.now + 2 ≤ 64 }
@@ -133,7 +133,7 @@ impl LeafMap {
         Ok(())
     }
 
-    /// Puts the halves of both halves of a leaf in their places.
+    /// Replaces both halves of a leaf by their halves.
     fn halve_both(&mut self, name: &Name) -> Result<(), AllocError>
         requires halved { (leaves : List MarkedLeaf) × (is_leaf (names_of leaves) name.now ≡ true) × Tile (names_of leaves)
             × (self.old ≡ halved name.now leaves) }
@@ -157,7 +157,7 @@ impl LeafMap {
         self.leaves.len()
     }
 
-    /// The names alone, in memory that was taken before.
+    /// The names of the leaves, in memory that was allocated before.
     pub(crate) fn names_in(&self, mut room: Vec<Name>) -> Leaves
         requires empty { vec_len room ≡ 0 }
         requires enough { length (names_of self.now) ≤ vec_capacity room }

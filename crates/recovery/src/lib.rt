@@ -1,13 +1,21 @@
-//! Makes a log, says what the cells of one stand for, and opens one.
+//! Creates a log, returns what the cells of a log record, and opens a log.
 //!
-//! Contracts see what is found (`Seen`) as the state of a list of legal cells: objects, leaves, open splits, begins. `open_log`,
-//! `inspect_log` and `Walk::along` say which logs are `Wanted`, and answer `Ok` where the bytes recover to at most so many cells, else the
-//! first place at fault (`IsFault`), and of a drive whose content isn't known nothing that can't be (`MayTell`). At each moment of an
-//! opening a crash leaves what recovers to the same cells, and no call is made behind one that failed (`StopsAtFault`). Versions 1 and 2
-//! of the log are read, and 2 alone is opened, in which `init` and appends write. `open`, `inspect` and `Walk::start` are the same for a
-//! width that the caller names. A `Walk` tells the cells one at a call, and in the end what `inspect_log` would.
+//! Contracts see what is found (`Seen`) as the state of a list of legal cells: objects, leaves, open splits, and the
+//! number of begins.
+//! - `init` creates a log, in version 2.
+//! - `open_log` opens a log of version 2 for appends. `inspect_log` and `Walk::along` read a log of version 1 or 2.
+//! - These three take a `Wanted`: the width and the largest number of cells. `open`, `inspect` and `Walk::start` do the
+//!   same for a width that the caller names.
+//! - Without a failure of memory or of the drive, the result is `Ok` if and only if the bytes recover to at most that
+//!   many cells of a wanted log. Otherwise it is the first fault in the bytes (`IsFault`). A walk returns a fault of a
+//!   cell when it comes to that cell. If the contract doesn't know the drive's bytes, it still limits the result
+//!   (`MayTell`).
+//! - At each moment of an opening a crash leaves bytes that recover to the same cells. No call of the drive follows one
+//!   that failed (`StopsAtFault`).
+//! - A `Walk` returns one cell a call, and at its end the same as `inspect_log`.
 //!
-//! Not here: appends (`split_log`), the bytes of a cell (`cell_format`), the history that a book writes (`commit_book`).
+//! Not here: appends (`split_log`), the bytes of a cell (`cell_format`), the history that a book writes
+//! (`commit_book`).
 #![tactic(auto)]
 
 mod heads;

@@ -1,4 +1,4 @@
-//! Makes a log of no cells.
+//! Creates a log of no cells.
 ghost use Rattle.std.specs.Prelude.{◌≡◌, ◌⊎◌, ◌++◌, ◌∷◌, [], OnOk, IfOk, IfErr, MatchResult};
 ghost use Rattle.zorder.specs.Width.{IsWidth};
 ghost use Rattle.cell_format.specs.Spelling.{newest, header_text};
@@ -9,11 +9,11 @@ use crate::wanted::NEWEST;
 use cell_format::header;
 use disk_trait::LogDisk;
 
-/// The most bytes that a file may have of which a log is made: those of a log of no cells.
+/// The most bytes that a file may have for `init` to create a log in it: the length of a log of no cells.
 const MOST_BYTES: u64 = 17;
 
-/// Makes a log whose splits will make `2 ^ width` children. A crash within it leaves at most 17 bytes of any content, so that it may
-/// be called again.
+/// Creates a log whose splits will create `2 ^ width` children. The file must have at most 17 bytes. A crash during the
+/// call leaves at most 17 bytes, of any content, so the call may be repeated.
 pub fn init<D: LogDisk>(mut disk: D, width: u8) -> Result<D, InitRefused<D>>
     requires width { IsWidth width }
 

@@ -16,7 +16,8 @@ use split_log::{CELL_BYTES, HEADER_BYTES, SplitLog};
 use std::alloc::Global;
 use std::snapshot::Snapshot;
 
-/// Opens a log of version 2 that is wanted, by the width that its head names, and cuts off what stands behind its last commit byte.
+/// Opens a wanted log of version 2, with the width that its head names, and cuts off what follows its last commit byte.
+/// It makes one device call, a sync, if nothing follows that byte. Otherwise it makes three: a sync, a cut and a sync.
 pub fn open_log<D: LogDisk>(
     alloc: Global,
     mut disk: D,
@@ -46,7 +47,7 @@ pub fn open_log<D: LogDisk>(
     }
 }
 
-/// The same of a log whose splits make `2 ^ width` children.
+/// The same as `open_log`, for a log whose splits create `2 ^ width` children.
 pub fn open<D: LogDisk>(
     alloc: Global,
     disk: D,
@@ -70,7 +71,7 @@ pub fn open<D: LogDisk>(
     }
 }
 
-/// Leaves a log that is wanted alone in the file, synced.
+/// Leaves only a wanted log in the file, synced.
 fn settle<D: LogDisk>(alloc: Global, disk: &mut D, wanted: Wanted) -> Result<SeenLog, OpenFault>
     requires width { IfSome wanted.width IsWidth }
 
@@ -78,7 +79,7 @@ fn settle<D: LogDisk>(alloc: Global, disk: &mut D, wanted: Wanted) -> Result<See
     ensures refused { IfErr result (RefusesWanted wanted.width wanted.most (D.drive disk.old) (D.drive disk.new)) }
     ensures any_moment { KeepsStanding (D.drive disk.old) (D.drive disk.new) }
 {
-    // Synced first: what is read is then what a crash leaves.
+    // Sync first. A crash then leaves what is read next.
     disk.sync()?;
     let found = read_log(alloc, disk, NEWEST, wanted)?;
     let end = HEADER_BYTES + 1 + CELL_BYTES * found.seen.cells;
@@ -89,14 +90,14 @@ fn settle<D: LogDisk>(alloc: Global, disk: &mut D, wanted: Wanted) -> Result<See
     })
 }
 
-/// Cuts a file of this length where it is longer.
+/// Cuts a file of `len` bytes to `end` bytes if it is longer.
 fn cut_behind<D: LogDisk>(disk: &mut D, end: u64, len: u64) -> Result<(), DiskFault>
     requires within { end ≤ len }
     requires whole { (xs : List ℕ) → (D.drive disk.old).bytes ≡ Some xs → length xs ≡ len }
 
     ensures done { OnOk result ((xs : List ℕ) → (D.drive disk.old).bytes ≡ Some xs → Only xs (D.drive disk.old).images
         → ((D.drive disk.new).bytes ≡ Some (take end xs)) × Only (take end xs) (D.drive disk.new).images) }
-    ensures told { OnOk result (is_some (D.drive disk.new).bytes ≡ is_some (D.drive disk.old).bytes) }
+    ensures told { is_some (D.drive disk.new).bytes ≡ is_some (D.drive disk.old).bytes }
     ensures any_moment { (w : ℕ) (cells : List Cell) → end ≡ 17 + 32 * length cells → LeavesNow (D.drive disk.old) (Recovers w cells)
         → LeavesOnly (D.drive disk.old) (D.drive disk.new) (Recovers w cells) }
     ensures newest { 9 ≤ end → KeepsNewest (D.drive disk.old) (D.drive disk.new) }

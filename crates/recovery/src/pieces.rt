@@ -8,10 +8,10 @@ use crate::walked::Walked;
 use cell_format::{Cause, Cell, CellFault, decode};
 use zorder::Point;
 
-/// The bytes of a cell.
+/// The length of a cell in bytes, with its commit byte.
 pub(crate) const CELL: usize = 32;
 
-/// Goes over the cell of this number at the front of a piece, where its commit byte is set.
+/// Processes the cell at the front of a piece, if its commit byte is set. `number` is the number of that cell.
 pub(crate) fn walk_front(
     replay: &mut Replay,
     piece: &[u8],
@@ -35,7 +35,7 @@ pub(crate) fn walk_front(
     Ok(Some(walked))
 }
 
-/// Goes over the cell at the front, whose commit byte is set.
+/// Processes the cell at the front of a piece. Its commit byte is set.
 fn walk_cell(replay: &mut Replay, piece: &[u8], number: u64) -> Result<Walked, OpenFault>
     requires long { 33 ≤ length piece.now }
     requires committed { slice_index piece.now 0 ≡ 1 }
@@ -70,7 +70,7 @@ fn front(piece: &[u8]) -> [u8; CELL]
     bytes
 }
 
-/// Where the object of a cell is after it.
+/// The position of a cell's object after the cell.
 fn place_after(cell: &Cell) -> Option<Point>
     ensures { result ≡ place_after cell.now }
 {
@@ -84,7 +84,7 @@ fn place_after(cell: &Cell) -> Option<Point>
     }
 }
 
-/// The cell of this number is at fault.
+/// The fault of the cell with this number.
 pub(crate) fn damaged(cell: u64, cause: Cause) -> OpenFault
     ensures { result ≡ OpenFault.Damaged cell cause }
 {

@@ -20,17 +20,17 @@ use split_log::{CELL_BYTES, HEADER_BYTES};
 use std::alloc::{AllocError, Global};
 use std::marker::Model;
 
-/// The bytes read at once: 2,048 cells, and the commit byte behind them.
+/// The number of bytes that one call reads: 2,048 cells, and the commit byte after them.
 const PIECE: usize = 65_537;
 
-/// How far a log was read: the state after its cells so far, and what is left of the piece that was read last.
+/// How far a log was read: the state after its cells so far, and the unread rest of the last piece.
 #[derive(Drop)]
 pub(crate) struct Reading {
     replay: Replay,
     buffer: Vec<u8>,
-    /// Where the commit byte of the next cell stands in the buffer.
+    /// The place of the next cell's commit byte in the buffer.
     at: usize,
-    /// How much of the buffer was read.
+    /// The number of bytes in the buffer that were read from the drive.
     filled: usize,
     number: u64,
     most: u64,
@@ -50,7 +50,7 @@ impl Model for Reading {
 }
 
 impl Reading {
-    /// Reads the head of a log that is wanted.
+    /// Reads the head of a wanted log.
     pub(crate) fn start<D: LogDisk>(
         alloc: Global,
         disk: &mut D,
@@ -80,7 +80,7 @@ impl Reading {
         })
     }
 
-    /// Goes over the next cell, if there is one.
+    /// Processes the next cell, if there is one.
     pub(crate) fn advance<D: LogDisk>(&mut self, disk: &mut D) -> Result<Option<Walked>, OpenFault>
         ensures advances { Advances (D.drive disk.old) self.old self.new result }
         ensures reads { OnlyReads (D.drive disk.old) (D.drive disk.new) result }
@@ -89,7 +89,8 @@ impl Reading {
         self.walk_on()
     }
 
-    /// Reads the next piece, from the commit byte of the next cell on, where what is left of the last one doesn't tell that cell.
+    /// Reads the next piece, from the commit byte of the next cell on, if the rest of the last piece doesn't decide the
+    /// next cell.
     fn fill<D: LogDisk>(&mut self, disk: &mut D) -> Result<(), OpenFault>
         ensures ok { OnOk result (IsFilled (D.drive disk.old) self.old self.new) }
         ensures err { IfErr result (λ e. IsEmptied self.old self.new × Stops (D.drive disk.old) self.old e) }
@@ -109,7 +110,7 @@ impl Reading {
         Ok(())
     }
 
-    /// What is at fault where the next commit byte, which was there, can't be read any more: it counts as set.
+    /// The fault if the next commit byte, which the file has, can no longer be read. The byte counts as set.
     fn unread(&self) -> OpenFault
         ensures behind { IsBehind self.now.most self.now.number result }
         ensures other { IsInBytes result }
@@ -120,7 +121,7 @@ impl Reading {
         damaged(self.number, Cause::ShortCell)
     }
 
-    /// Whether what is left of the piece doesn't tell the next cell.
+    /// Whether the rest of the piece doesn't decide the next cell.
     fn needs_piece(&self) -> bool
         ensures { result ≡ false → NeedsNoPiece self.now }
     {
@@ -128,7 +129,7 @@ impl Reading {
         rest.len() <= CELL && (rest.is_empty() || rest[0] == 1 && self.number < self.most)
     }
 
-    /// Goes over the cell at the front of what is left of the piece.
+    /// Processes the cell at the front of the rest of the piece.
     fn walk_on(&mut self) -> Result<Option<Walked>, OpenFault>
         requires { 1 ≤ length self.old.rest }
         ensures { WalksOn self.old self.new result }
@@ -142,7 +143,7 @@ impl Reading {
         Ok(Some(walked))
     }
 
-    /// Takes room for what stands here, and for what the next cell may add.
+    /// Reserves memory for what was found so far, and for what the next cell may add.
     pub(crate) fn make_room(&self, room: &mut Room) -> Result<(), AllocError>
         ensures more { OnOk result (HasRoomForMore self.now.replay.state room.new) }
         ensures kept { IsNoLess room.old room.new }
@@ -150,7 +151,7 @@ impl Reading {
         self.replay.make_room(room)
     }
 
-    /// What was found so far, in memory that was taken before.
+    /// What was found so far, in memory that was reserved before.
     pub(crate) fn seen_in(&self, room: Room) -> Seen
         requires { HasRoom self.now.replay.state room }
         ensures { IsSeenOf self.now result }
@@ -166,7 +167,7 @@ impl Reading {
         self.replay.width()
     }
 
-    /// How long the file is.
+    /// The length of the file in bytes.
     pub(crate) fn len(&self) -> u64
         ensures { result ≡ self.now.len }
     {
@@ -174,7 +175,7 @@ impl Reading {
     }
 }
 
-/// Reads from a place in a file of this length to its end, as far as there is room.
+/// Reads a file of `len` bytes from `at` to its end, as far as the buffer has room.
 fn read_piece<D: LogDisk>(
     disk: &mut D,
     buffer: &mut [u8],

@@ -1,4 +1,4 @@
-//! Goes over cells one by one, and keeps the state after them.
+//! Processes cells one by one, and keeps the state after them.
 ghost use Rattle.std.specs.Prelude.{◌≡◌, ◌⊎◌, IfOk, OnOk};
 ghost use Rattle.cell_format.specs.Spelling.{IsVersion};
 ghost use Rattle.zorder.specs.Width.{IsWidth};
@@ -18,10 +18,10 @@ use std::alloc::{AllocError, Global};
 use std::marker::Model;
 use zorder::{Name, Point};
 
-/// Why no step was made.
+/// Why a cell was not processed.
 #[derive(Clone, Copy)]
 pub(crate) enum StepFault {
-    /// The cell isn't possible at this state.
+    /// The cell isn't possible in this state.
     Impossible,
     Memory,
 }
@@ -59,7 +59,7 @@ impl Model for Replay {
 }
 
 impl Replay {
-    /// Before the first cell of a log of this version.
+    /// The state before the first cell of a log of this version and width.
     pub(crate) fn new(alloc: Global, version: u8, width: u8) -> Result<Replay, AllocError>
         requires version { IsVersion version }
         requires width { IsWidth width }
@@ -75,7 +75,7 @@ impl Replay {
         })
     }
 
-    /// The width of its splits.
+    /// The width of the log's splits.
     pub(crate) fn width(&self) -> u8
         ensures value { result ≡ self.now.width }
         ensures known { IsWidth self.now.width }
@@ -92,7 +92,7 @@ impl Replay {
         self.version
     }
 
-    /// Goes over a cell, and tells where its object was.
+    /// Processes a cell, and returns where its object was before. An error leaves the state unchanged.
     pub(crate) fn step(&mut self, cell: &Cell) -> Result<Option<Point>, StepFault>
         ensures steps { Steps self.old.width self.old.state self.new.state cell.now result }
         ensures version { self.new.version ≡ self.old.version }
@@ -191,7 +191,7 @@ impl Replay {
         Ok(None)
     }
 
-    /// Takes room for what stands here, and for what a cell may add: an object, or three leaves.
+    /// Reserves memory for the present state, and for what a cell may add: an object, or three leaves.
     pub(crate) fn make_room(&self, room: &mut Room) -> Result<(), AllocError>
         ensures more { OnOk result (HasRoomForMore self.now.state room.new) }
         ensures kept { IsNoLess room.old room.new }
@@ -199,7 +199,7 @@ impl Replay {
         room.reserve(self.members.len() + 1, self.leaves.len() + 3)
     }
 
-    /// What was found after so many cells, in memory that was taken before.
+    /// What was found after `cells` cells, in memory that was reserved before.
     pub(crate) fn seen_in(&self, room: Room, cells: u64) -> Seen
         requires { HasRoom self.now.state room }
         ensures shows { Shows self.now.state cells result }

@@ -1,4 +1,4 @@
-//! Memory for what is found in a log, taken before it is told.
+//! Memory for what a log records, reserved before it is needed.
 ghost use Rattle.std.specs.Prelude.{◌≡◌, ◌≤◌, OnOk, vec_len, vec_capacity};
 ghost use Rattle.recovery.specs.Room.{IsNoLess};
 
@@ -7,7 +7,7 @@ use std::alloc::{AllocError, Global};
 use std::marker::Model;
 use zorder::Name;
 
-/// Two empty lists: how many objects and how many leaves they can take.
+/// Two empty lists. Contracts see how many objects and how many leaves they can take.
 #[derive(Drop)]
 pub(crate) struct Room {
     members: Vec<Member>,
@@ -33,7 +33,7 @@ impl Room {
         }
     }
 
-    /// Takes room for so many at least.
+    /// Reserves memory for at least so many objects and leaves.
     pub(crate) fn reserve(&mut self, members: usize, leaves: usize) -> Result<(), AllocError>
         ensures members { OnOk result (members ≤ self.new.members) }
         ensures leaves { OnOk result (leaves ≤ self.new.leaves) }

@@ -8,7 +8,7 @@ use std::collections::BTreeMap;
 use std::marker::Model;
 use zorder::Name;
 
-/// The name of each open split, by its number: a list in the order of their begins.
+/// The name of each open split, by its number. Contracts see them as a list in the order of their begins.
 #[derive(Drop)]
 pub(crate) struct SplitMap {
     names: BTreeMap<u64, Name>,
@@ -50,7 +50,8 @@ impl SplitMap {
         self.names.get(&number).copied()
     }
 
-    /// Adds a split with a number above all others, in place of the earlier one of this number and the same name, if it is there.
+    /// Adds a split whose number is above all others. It replaces the split `earlier`, if that split is open and has
+    /// the same name.
     pub(crate) fn begin_again(
         &mut self,
         earlier: u64,
@@ -69,7 +70,7 @@ impl SplitMap {
         Ok(())
     }
 
-    /// Whether the split with this number is there and of this name.
+    /// Whether the split with this number is open and has this name.
     fn is_split(&self, number: u64, name: &Name) -> bool
         ensures yes { result ≡ true → split_name self.now number ≡ Some name.now }
         ensures no { result ≡ false → split_name self.now number ≢ Some name.now }
@@ -91,7 +92,7 @@ impl SplitMap {
         Ok(())
     }
 
-    /// Takes the split with this number out, if it is there.
+    /// Removes the split with this number, if it is open.
     pub(crate) fn remove(&mut self, number: u64)
         ensures { self.new ≡ without_number number self.old }
     {

@@ -39,7 +39,7 @@ impl<D: LogDisk> Model for Walk<D> {
     ghost invariant = { λ w. HasRoom w.reading.replay.state w.room };
 }
 
-/// The drive back, and what the cells that were walked stand for.
+/// The drive, returned, and what the cells that were walked record.
 #[derive(Drop)]
 pub struct WalkEnd<D: Drop> {
     pub disk: D,
@@ -47,7 +47,7 @@ pub struct WalkEnd<D: Drop> {
 }
 
 impl<D: LogDisk> Walk<D> {
-    /// Begins before the first cell of a log of version 1 or 2 that is wanted, by the width that its head names.
+    /// Begins before the first cell of a wanted log of version 1 or 2, with the width that its head names.
     pub fn along(alloc: Global, mut disk: D, wanted: Wanted) -> Result<Walk<D>, OpenRefused<D>>
         requires width { IfSome wanted.width IsWidth }
 
@@ -66,7 +66,7 @@ impl<D: LogDisk> Walk<D> {
         }
     }
 
-    /// The same in a log whose splits make `2 ^ width` children.
+    /// The same as `along`, for a log whose splits create `2 ^ width` children.
     pub fn start(alloc: Global, disk: D, width: u8, most: u64) -> Result<Walk<D>, OpenRefused<D>>
         requires width { IsWidth width }
 
@@ -87,8 +87,8 @@ impl<D: LogDisk> Walk<D> {
         self.reading.width()
     }
 
-    /// Goes over the next cell, and says what it was; none where there are no more. A fault leaves the walk where it was, so that
-    /// `finish` still tells the cells before it.
+    /// Returns the next cell, or `None` after the last one. An error leaves the walk where it was, so `finish` still
+    /// returns what the cells before it record.
     pub fn next(&mut self) -> Result<Option<Walked>, OpenFault>
         ensures tells { (w most : ℕ) (cells : List Cell) → ComesTo w most cells (D.drive self.old.disk) self.old
             → TellsWalked w most cells (D.drive self.old.disk) (D.drive self.new.disk) self.new result }
@@ -104,7 +104,7 @@ impl<D: LogDisk> Walk<D> {
         self.reading.advance(&mut self.disk)
     }
 
-    /// What the cells walked so far stand for. It takes no memory.
+    /// Returns the drive and what the cells walked so far record. It takes no memory.
     pub fn finish(self) -> WalkEnd<D>
         ensures found { (w most : ℕ) (cells : List Cell) → ComesTo w most cells (D.drive self.disk) self → Finds w cells result.seen }
         ensures named { (w most : ℕ) (cells : List Cell) (bytes : List ℕ) → ComesTo w most cells (D.drive self.disk) self
@@ -124,7 +124,7 @@ impl<D: LogDisk> Walk<D> {
     }
 }
 
-/// Reads the head of a log that is wanted, and takes the room to tell that it has no cells.
+/// Reads the head of a wanted log, and reserves the memory that `finish` needs if no cell is walked.
 fn read_first<D: LogDisk>(
     alloc: Global,
     disk: &mut D,

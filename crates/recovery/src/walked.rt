@@ -1,8 +1,9 @@
-//! What a walk over the cells of a log tells of each.
+//! What a walk returns for each cell.
 use cell_format::Cell;
 use zorder::Point;
 
-/// A cell, its number, and where the object that it changes was before it and is after it: nowhere where there is none.
+/// A cell, its number, and the position of the object that it changes, before and after the cell. A position is `None`
+/// if the object isn't there, or if the cell is a step of a split.
 #[derive(Clone, Copy, Debug, PartialEq)]
 pub struct Walked {
     pub at: u64,

@@ -1,12 +1,12 @@
 //! Which logs are read.
 
-/// The oldest version of a log that is read.
+/// The oldest version of a log that the crate reads.
 pub(crate) const FIRST: u8 = 1;
 
-/// The version of a log that is made, and opened for appends.
+/// The version of the logs that `init` creates and `open_log` opens.
 pub const NEWEST: u8 = 2;
 
-/// Which logs are wanted: those of this width, or where none is named, of either; and with at most so many cells.
+/// Which logs a call accepts: those of this width, or of either width if it is `None`, with at most `most` cells.
 #[derive(Clone, Copy)]
 pub struct Wanted {
     pub width: Option<u8>,

@@ -112,6 +112,7 @@ attach-refused w file a b attach.Disk laws stays counts = record {
   untouched = λ bytes told long none. untouched-stays w a b laws stays;
   calm = λ other. absurd (other tt);
   later = counts.later;
+  told = ap is_some stays.bytes;
   calls = inl (well-none a b stays.calls);
   attached = (counts.kept, stays);
 }
@@ -121,6 +122,7 @@ attach-refused w file a b attach.Memory laws stays counts = record {
   untouched = λ bytes told long none. untouched-stays w a b laws stays;
   calm = λ other. counts.memory refl;
   later = counts.later;
+  told = ap is_some stays.bytes;
   calls = inl (well-none a b stays.calls);
   attached = inr counts.kept;
 }
@@ -168,6 +170,7 @@ module _ (w : ℕ) (file : List ℕ) (a b c : Drive) (laws : KeepsLaws a) (stays
         untouched = λ bytes told long none. untouched-stays w a c laws (stays-trans a b c stays (small.in_use bytes (stays.bytes ∙ told) long));
         calm = λ other. absurd (other tt);
         later = omega (arith, up, small.later);
+        told = fails.told ∙ ap is_some stays.bytes;
         calls = stops-then a b c (well-none a b stays.calls) (⊎_elim (λ none. inl (well-none b c none)) (λ stops. inr (record { went_well = stops.0; calls = stops.1.calls })) fails.calls);
         attached = still;
       }
@@ -251,6 +254,7 @@ module _ (w : ℕ) (file : List ℕ) (a b c : Drive) (laws : KeepsLaws a) (readi
             untouched-behind w a b laws stays c (leaves.no_log bytes (stays.bytes ∙ told) none);
         calm = λ other. leaves.calm (λ disk. other (subst (λ (e : OpenFault). IsOfDrive (open_cause e)) (sym disk) tt)) ∙ readies.calm;
         later = omega (arith, up, later);
+        told = leaves.told ∙ readies.told;
         calls = stops-then a b c readies.calls (stops-refused why b c leaves.calls);
         attached = open-attached file a c why (attached-still file true a b c readies.attached leaves.file);
       }
@@ -286,6 +290,7 @@ memory-refused w file a start now seen laws opens =
           absurd (none found.cells (found.recovers bytes here) (newest-found w start seen found bytes here) found.few);
       calm = λ other. opens.ready.same ∙ readies.calm;
       later = omega (arith, opens.ready.same, readies.calm);
+      told = opens.ready.told ∙ readies.told;
       calls = inl (well-then a start now readies.calls (well-opened seen.cells start now opens.ready.calls));
       attached = inl (attached-still file true a start now readies.attached opens.ready.file);
     }

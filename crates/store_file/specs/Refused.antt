@@ -1,5 +1,5 @@
 -- Why no store is opened over a file, and what that leaves.
-use Rattle.std.specs.Prelude.{◌≡◌, ◌⊎◌, ℕ, nat_le, ◌<◌, ◌≤◌, Bool, true, false, ◌&&◌, List, length, Some, ⊤}
+use Rattle.std.specs.Prelude.{◌≡◌, ◌⊎◌, ℕ, nat_le, ◌<◌, ◌≤◌, Bool, true, false, ◌&&◌, List, length, Some, is_some, ⊤}
 use Rattle.causes.specs.Causes.{Rose}
 use Rattle.cell_format.specs.Spelling.{newest}
 use Rattle.disk_trait.specs.Drive.{Drive, AttachedOne, AttachedAtMost, SameFile, Stays}
@@ -60,6 +60,7 @@ pub record NotOpens (w : ℕ) (file : List ℕ) (old new : Drive) (cause : OpenC
   pub untouched : (bytes : List ℕ) → old.bytes ≡ Some bytes → 17 < length bytes → HasNoLog w most_cells bytes → IsUntouched old new
   pub calm : (IsOfDrive cause → ⊥) → new.faults ≡ old.faults
   pub later : old.faults ≤ new.faults
+  pub told : is_some new.bytes ≡ is_some old.bytes
   pub calls : StopsAtFault old new
   pub attached : IsAttached file old new cause
 

@@ -1,20 +1,28 @@
 //! Stores that go on over a second file, also where a drive fails or a crash comes.
+ghost use Rattle.std.specs.Prelude.{◌≡◌, true, is_some};
+ghost use Rattle.sessions.specs.Shared.{HasWorld};
+ghost use Rattle.store_client.specs.Caller.{IsFree};
+
 use crate::files::{
     FIRST_TWO, FIRST_TWO_AND_FOURTH, Leaves, close, expect_either, expect_in, filled, found_in,
     go_on, open_one, rotate, rotated,
 };
 use crate::logs::{
-    ANEW, EMPTY, END, FILLED, GONE_ON, HEADER, PUT_2, PUT_3, REMOVE_3, UNSET_1, disk_of, disk_with,
-    expect_bytes,
+    ANEW, EMPTY, END, FILLED, GONE_ON, HEADER, PUT_1, PUT_2, PUT_3, PUT_4, REMOVE_3, UNSET_1,
+    disk_of, disk_with, expect_bytes,
 };
+use commit_book::Book;
 use disk_mem::{DiskCall, Fail, MemDisk};
 use disk_trait::LogDisk;
 use flat_index::FlatIndex;
 use index_layer::Index;
+use sessions::Renewed;
 use std::alloc::Global;
 use std::process::Abort;
 use std::sync::Wait;
-use store_file::{NotRotated, OpenedEither, RotateCause, Rotated, Which};
+use store_file::{
+    NotRotated, OpenedEither, OverFile, RotateCause, Rotated, Which, renew_book, rotate_store,
+};
 
 // Fills a store, and rotates it; where it goes on, that is with one put: how many entries each of the two had, and both drives, the one of
 // the store first.
@@ -133,6 +141,52 @@ fn kept<I: Index, D: LogDisk, R: Wait + Abort>(
     let (store, pass) = filled::<I, D, R>(rt, alloc, disk);
     match rotate(alloc, store, pass, spare, leaves) {
         Err(NotRotated::Kept { book, spare, cause }) => (cause, book.into_parts().disk, spare),
+        _ => rt.panic("the book isn't kept"),
+    }
+}
+
+fn book_renewed<I: Index, D: LogDisk>(
+    rt: &impl Abort,
+    alloc: Global,
+    book: Book<I, D>,
+) -> Renewed<I, D, OverFile>
+    requires world { HasWorld book }
+    requires logged { is_some book.log ≡ true }
+    ensures free { IsFree result.store result.pass }
+    ensures parts { result.pass.parts ≡ 65536 }
+{
+    match renew_book(alloc, book) {
+        Ok(renewed) => renewed,
+        Err(_) => rt.panic("the book isn't renewed"),
+    }
+}
+
+// A store that a file in use keeps from a rotation goes on over its own file, with one put: how many entries the book and then the store
+// had, and both drives, the one of the store first.
+fn keep_and_renew<I: Index, D: LogDisk, R: Wait + Abort>(
+    rt: &R,
+    alloc: Global,
+    disk: D,
+    spare: D,
+) -> ([usize; 2], D, D) {
+    let (store, pass) = filled::<I, D, R>(rt, alloc, disk);
+    match rotate_store(alloc, store, pass, spare) {
+        Err(
+            NotRotated::Kept {
+                book,
+                spare,
+                cause: _,
+            },
+        ) => {
+            let Renewed {
+                store,
+                pass,
+                entries,
+            } = book_renewed(rt, alloc, book);
+            let pass = go_on(rt, alloc, &store, pass);
+            let (more, disk) = close(rt, store, pass);
+            ([entries.as_slice().len(), more], disk, spare)
+        }
         _ => rt.panic("the book isn't kept"),
     }
 }
@@ -294,6 +348,24 @@ fn a_second_drive_that_fails_leaves_the_first_log(rt: HostRuntime) {
 fn a_second_file_in_use_is_left_alone(rt: HostRuntime) {
     leaves_a_file_in_use(&rt, rt.alloc(), Leaves::AsTheyAre);
     leaves_a_file_in_use(&rt, rt.alloc(), Leaves::Anew);
+}
+
+fn goes_on_over_its_own_file<R: Wait + Abort>(rt: &R, alloc: Global) {
+    let (one, two) = (disk_with(rt, alloc, &[]), disk_with(rt, alloc, GONE_ON));
+    let (entries, one, two) = keep_and_renew::<FlatIndex, MemDisk, R>(rt, alloc, one, two);
+    assert_same!(rt; entries, [4, 1]);
+    expect_bytes(
+        rt,
+        alloc,
+        &one,
+        &[HEADER, PUT_1, PUT_2, PUT_3, REMOVE_3, PUT_4, END],
+    );
+    expect_bytes(rt, alloc, &two, GONE_ON);
+}
+
+#[test]
+fn a_book_that_is_kept_goes_on_over_its_own_file(rt: HostRuntime) {
+    goes_on_over_its_own_file(&rt, rt.alloc());
 }
 
 #[test]

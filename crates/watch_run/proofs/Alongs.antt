@@ -38,11 +38,11 @@ use Rattle.watch_run.specs.inside.Along.{FindsAlong, IsCalm, RefusesAttached, Re
 use Rattle.watch_run.proofs.Crowds.{crowd-damaged, crowd-long}
 use Rattle.watch_run.proofs.Stops.{FailsAlong, calm-trans, refuses-crowd, refuses-later, refuses-memory}
 
--- a call that went well
+-- A call that went well.
 pub calm-reads : {T : Type 0} (old new : Drive) (x : T) → OnlyReads old new (Ok x) → IsCalm old new
 calm-reads old new x reads = record { stays = reads.stays; same = reads.same; file = reads.file }
 
--- behind so many cells of a walk
+-- After these cells of a walk.
 module _ {D : Type 0} (w : ℕ) (cells : List Cell) (drive : Drive) (walk : WalkView D) (came : ComesTo w most_inspected cells drive walk) where
   pub begins-there : (bytes : List ℕ) → drive.bytes ≡ Some bytes → (tail : List ℕ) × BeginsWith walk.reading.replay.version w cells tail bytes × (1 ≤ length tail)
   begins-there bytes told =
@@ -51,13 +51,13 @@ module _ {D : Type 0} (w : ℕ) (cells : List Cell) (drive : Drive) (walk : Walk
       let some : 1 ≤ length (walk.reading.rest ++ at.1) = omega (arith, at.0, came.room, (behind_cells walk.reading.replay.version w cells (walk.reading.rest ++ at.1) bytes begins).1) in
       (walk.reading.rest ++ at.1, begins, some)
 
--- a watch that was led along a log from its first cell on, with the drive as it was at first, and as it is left
+-- A watch that followed a log from its first cell on. `first` is the drive at the start, and `after` at the end.
 module _ {D : Type 0} (w : ℕ) (fences : List Fence) (first after : Drive) (walk : WalkView D) (v : TallyView) (width : IsWidthOf first w) (few : length v.events ≤ most_events) where
-  -- the cells have no more crossings than are kept
+  -- The cells have no more crossings than are kept.
   never : (cells : List Cell) → TalliesCells [] cells fences v → most_events < length (crossings cells fences) → ⊥
   never cells tallies over = omega (arith, few, over, ap length tallies.events)
 
-  -- the end
+  -- The end of the log.
   pub finds-all : IsLed w most_inspected [] [] [] fences first after walk v (Ok None) → FindsAlong fences first v
   finds-all led = record {
     width = w;
@@ -67,7 +67,7 @@ module _ {D : Type 0} (w : ℕ) (fences : List Fence) (first after : Drive) (wal
     under = few;
   }
 
-  -- a fault in the log
+  -- A fault in the log.
   module _ (e : OpenFault) (led : IsLed w most_inspected [] [] [] fences first after walk v (Err e)) (reads : OnlyReads {T = Unit {0}} first after (Err e)) where
     rose : e ≡ fault.Disk → Rose first.faults after.faults
     rose disk = reads.failed (ap (λ (f : OpenFault). Err f) disk)
@@ -97,9 +97,9 @@ module _ {D : Type 0} (w : ℕ) (fences : List Fence) (first after : Drive) (wal
       reads = reads;
     }
 
-  -- a cell that the watch didn't take
+  -- A cell whose step the watch didn't make.
   module _ (walked : Walked) (led : IsLed w most_inspected [] [] [] fences first after walk v (Ok (Some walked))) (calm : IsCalm first after) where
-    -- with which there are too many crossings
+    -- With this cell there are too many crossings.
     crowd-now : IsPast walked v → ShowsCrowd fences first
     crowd-now over bytes told =
         let at = begins-there w (led.cells ++ walked.cell ∷ []) after walk led.tells.0 bytes (calm.stays.bytes ∙ told) in
@@ -122,7 +122,7 @@ module _ {D : Type 0} (w : ℕ) (fences : List Fence) (first after : Drive) (wal
     stops-led watch_fault.TooMany over = record { refuses = refuses-crowd fences first after calm (crowd-now (over refl)); file = calm.file }
     stops-led watch_fault.Memory over = record { refuses = refuses-memory fences first after calm.stays calm.same; file = calm.file }
 
--- what is said of a drive that was only read before
+-- What holds of a drive that was only read before.
 module _ (fences : List Fence) (a b c : Drive) (calm : IsCalm a b) where
   finds-later : (v : TallyView) → FindsAlong fences b v → FindsAlong fences a v
   finds-later v finds = record {
@@ -139,7 +139,7 @@ module _ (fences : List Fence) (a b c : Drive) (calm : IsCalm a b) where
   pub refused-later : (why : Refusal) → RefusesAttached fences b c why → RefusesAttached fences a c why
   refused-later why refused = record { refuses = refuses-later a b c calm.stays calm.same fences why refused.refuses; file = λ all told. calm.file all (refused.file all told) }
 
--- behind the attach of a file
+-- After the attach of a file.
 module _ (fences : List Fence) (file : List ℕ) (a b c : Drive) (stays : Stays a b) (same : b.faults ≡ a.faults) (attached : AttachedOne file false a b) where
   pub runs-file : (v : TallyView) → RunsAlong fences b c v → RunsFile fences file a c v
   runs-file v runs =
@@ -162,12 +162,12 @@ module _ (fences : List Fence) (file : List ℕ) (a b c : Drive) (stays : Stays 
     attached = attaches-one file false a c (status_of why) (attached-still file false a b c attached refused.file);
   }
 
--- the same of either answer
+-- The same for either result.
 pub match-as : {T E : Type 0} {P Q : T → Type 0} {R S : E → Type 0} (result : Result T E) → ((x : T) → P x → Q x) → ((e : E) → R e → S e) → MatchResult result P R → MatchResult result Q S
 match-as (Ok x) f g holds = f x holds
 match-as (Err e) f g holds = g e holds
 
--- a refusal, handed on
+-- A refusal, passed on.
 pub passed-on : {T : Type 0} (P : T → Type 0) (R : Refusal → Type 0) (result : Result T Refusal) (why : Refusal) → IsErrAnd result (λ other. other ≡ why) → R why → MatchResult result P R
 passed-on P R (Ok x) why same holds = absurd same
 passed-on P R (Err other) why same holds = subst R (sym same) holds

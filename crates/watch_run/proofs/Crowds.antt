@@ -23,7 +23,7 @@ use Rattle.fence_watch.specs.Crossings.{cell_crossings, crossings, crossings_fro
 use Rattle.fence_watch.specs.Watches.{most_events}
 use Rattle.watch_run.specs.Watching.{IsCrowded}
 
--- fewer cells have no more crossings
+-- Fewer cells have no more crossings.
 crossings-front : (at : ℕ) (world : World) (cells more : List Cell) (fences : List Fence) → length (crossings_from at world cells fences) ≤ length (crossings_from at world (cells ++ more) fences)
 crossings-front at world [] more fences = omega arith
 crossings-front at world (c ∷ cells) more fences =
@@ -31,7 +31,7 @@ crossings-front at world (c ∷ cells) more fences =
     let second = length-append (cell_crossings at world c fences) (crossings_from (at + 1) (world_behind world c) (cells ++ more) fences) in
     omega (arith, first, second, crossings-front (at + 1) (world_behind world c) cells more fences)
 
--- bytes behind the header
+-- The bytes after the header.
 module _ (v w : ℕ) (cells : List Cell) (tail bytes : List ℕ) (begins : BeginsWith v w cells tail bytes) where
   behind-header : bytes ≡ header_text v w ++ (flat_map spelling cells ++ tail)
   behind-header = begins.parts ∙ append_assoc (header_text v w) (flat_map spelling cells) tail
@@ -52,12 +52,12 @@ module _ (v w : ℕ) (cells : List Cell) (tail bytes : List ℕ) (begins : Begin
     long = omega (arith, (behind_cells v w cells tail bytes begins).1, some);
   }
 
--- two lists of cells at the front of the same bytes
+-- Two lists of cells at the front of the same bytes.
 both-begin : (v w : ℕ) (first second : List Cell) (tail rest bytes : List ℕ) → BeginsWith v w first tail bytes → BeginsWith v w second rest bytes → Compared v w empty_state first second tail rest
 both-begin v w first second tail rest bytes a b =
     compared v w empty_state first second tail rest a.cells_fit b.cells_fit a.legal b.legal (sym (behind-head v w first tail bytes a) ∙ behind-head v w second rest bytes b)
 
--- if they are as long, they are the same
+-- If they have the same length, they are equal.
 same-front : (v w : ℕ) (first second : List Cell) (tail rest bytes : List ℕ) → BeginsWith v w first tail bytes → BeginsWith v w second rest bytes → length first ≡ length second → first ≡ second
 same-front v w first second tail rest bytes a b long = elim (both-begin v w first second tail rest bytes a b) [
   | inl same ↦ same.0
@@ -67,7 +67,7 @@ same-front v w first second tail rest bytes a b long = elim (both-begin v w firs
   ]
 ]
 
--- cells with a commit byte behind them are a front of those at which a reading ends
+-- Cells with a commit byte after them are a prefix of those at which a reading ends.
 front-of_end : (v w most : ℕ) (front ends : List Cell) (rest tail bytes : List ℕ) → IsEnd v w most ends tail bytes → BeginsWith v w front rest bytes → 1 ≤ length rest → length front ≤ most
     → (more : List Cell) × (ends ≡ front ++ more)
 front-of_end v w most front ends rest tail bytes end begins some few = elim (both-begin v w front ends rest tail bytes begins end.begins) [
@@ -80,12 +80,12 @@ front-of_end v w most front ends rest tail bytes end begins some few = elim (bot
   ]
 ]
 
--- bytes that have too many
+-- Bytes that have too many crossings.
 module _ (fences : List Fence) (bytes : List ℕ) (crowd : IsCrowded fences bytes) where
   pub crowd-width : HasWidth crowd.width bytes
   crowd-width = has_width crowd.version crowd.width bytes (begins-header crowd.version crowd.width crowd.cells crowd.tail bytes crowd.begins crowd.some) crowd.wanted crowd.known
 
-  -- have too many where a reading ends
+  -- They have too many at the end of a reading.
   crowd-end : (v w : ℕ) (ends : List Cell) (tail : List ℕ) → IsEnd v w most_inspected ends tail bytes → most_events < length (crossings ends fences)
   crowd-end v w ends tail end =
       let version : crowd.version ≡ v = sym (named-version crowd.version crowd.width crowd.cells crowd.tail bytes crowd.begins) ∙ named-version v w ends tail bytes end.begins in
@@ -98,7 +98,7 @@ module _ (fences : List Fence) (bytes : List ℕ) (crowd : IsCrowded fences byte
   pub crowd-recovers : (w : ℕ) (cells : List Cell) → Recovers w cells bytes → length cells ≤ most_inspected → most_events < length (crossings cells fences)
   crowd-recovers w cells recovers few = crowd-end recovers.version w cells _ (recovers_end w most_inspected cells bytes recovers few)
 
-  -- and where something is at fault behind so many cells
+  -- They have too many before a fault.
   pub crowd-damaged : (v w : ℕ) (cells : List Cell) (rest : List ℕ) (n : ℕ) (why : Cause) → BeginsWith v w cells rest bytes → n ≡ length cells → IsDamaged 1 w most_inspected bytes n why → most_events < length (crossings cells fences)
   crowd-damaged v w cells rest n why begins place d =
       let version : d.version ≡ v = sym (named-version d.version w d.cells d.tail bytes d.begins) ∙ named-version v w cells rest bytes begins in

@@ -1,4 +1,4 @@
--- `watch` never tells that its words aren't accepted.
+-- `watch` never says that its words aren't accepted.
 use Rattle.std.proofs.Common.{◌≡◌, ◌⊎◌, inl, inr, ℕ, List}
 use Rattle.io_edge.specs.Streams.{Input}
 use Rattle.run_ends.specs.declared.refusals.Refusal.TheVariants as refusal

@@ -32,7 +32,7 @@ stays-still a = record { bytes = refl; images = λ c left. left; clock = refl; s
 pub calm-trans : (a b c : Drive) → IsCalm a b → IsCalm b c → IsCalm a c
 calm-trans a b c first second = record { stays = stays-trans a b c first.stays second.stays; same = second.same ∙ first.same; file = λ all told. first.file all (second.file all told) }
 
--- a fault that a call tells which only reads, and what the bytes say of it
+-- A fault of a call that only reads, and what the bytes say about it.
 pub record FailsAlong (fences : List Fence) (old new : Drive) (e : OpenFault) : Type 0 where
   pub wrong : ShowsFault oldest_read None most_inspected old e
   pub may : MayTell oldest_read None most_inspected e
@@ -41,7 +41,7 @@ pub record FailsAlong (fences : List Fence) (old new : Drive) (e : OpenFault) : 
   pub whole : (bytes : List ℕ) (w : ℕ) (cells : List Cell) → old.bytes ≡ Some bytes → IsWidth w → Recovers w cells bytes → length cells ≤ most_inspected → IsFree old new e
   pub reads : OnlyReads {T = Unit {0}} old new (Err e)
 
--- the refusal of a fault
+-- The refusal for a fault.
 pub refuses-fault : (fences : List Fence) (old new : Drive) (e : OpenFault) → FailsAlong fences old new e → RefusesAlong fences old new (log_refusal e)
 refuses-fault fences old new e fails =
     let rose : e ≡ fault.Disk → Rose old.faults new.faults = λ disk. fails.reads.failed (ap (λ (f : OpenFault). Err f) disk) in
@@ -54,7 +54,7 @@ refuses-fault fences old new e fails =
       calm = calm-read old.faults old.faults new.faults e refl fails.reads.same;
     }
 
--- want of memory
+-- A lack of memory.
 pub refuses-memory : (fences : List Fence) (old new : Drive) → Stays old new → new.faults ≡ old.faults → RefusesAlong fences old new refusal.Memory
 refuses-memory fences old new stays same = record {
   cause = inl tt;
@@ -65,7 +65,7 @@ refuses-memory fences old new stays same = record {
   calm = λ other. same;
 }
 
--- too many crossings
+-- Too many crossings.
 pub refuses-crowd : (fences : List Fence) (old new : Drive) → IsCalm old new → ShowsCrowd fences old → RefusesAlong fences old new refusal.LongEvents
 refuses-crowd fences old new calm crowd = record {
   cause = inr (refl, crowd);
@@ -76,7 +76,7 @@ refuses-crowd fences old new calm crowd = record {
   calm = λ other. calm.same;
 }
 
--- what is said of a drive that was only read before
+-- What holds of a drive that was only read before.
 module _ (a b c : Drive) (stays : Stays a b) (same : b.faults ≡ a.faults) where
   rose-first : Rose b.faults c.faults → Rose a.faults c.faults
   rose-first rose = subst (λ n. Rose n c.faults) same rose
@@ -113,7 +113,7 @@ module _ (a b c : Drive) (stays : Stays a b) (same : b.faults ≡ a.faults) wher
     calm = λ other. refuses.calm other ∙ same;
   }
 
--- a head that isn't read
+-- A head that isn't read.
 pub fails-head : (fences : List Fence) (old new : Drive) (e : OpenFault) → OnlyReads {T = Unit {0}} old new (Err e) → RefusesWalk None most_inspected old new e → FailsAlong fences old new e
 fails-head fences old new e reads refused = record {
   wrong = refused.fault.shows;

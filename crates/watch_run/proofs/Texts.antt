@@ -15,7 +15,7 @@ lines-counted : (world : World) (fences : List Fence) → flat_map counted_line 
 lines-counted world [] = refl
 lines-counted world (f ∷ fences) = ap (λ (l : List ℕ). end_line world f ++ l) (lines-counted world fences)
 
--- the lines of a tally of all cells are those of the cells
+-- The lines of a tally of all cells are those of the cells.
 pub text-tallied : (w : ℕ) (cells : List Cell) (fences : List Fence) (v : TallyView) → TalliesCells [] cells fences v → view_text v ≡ watched_text fences w cells
 unfolding watched_text
 text-tallied w cells fences v tallies =

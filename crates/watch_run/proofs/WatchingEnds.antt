@@ -26,7 +26,7 @@ use Rattle.watch_run.specs.inside.Lines.{view_text}
 use Rattle.watch_run.proofs.Crowds.{crowd-recovers}
 use Rattle.watch_run.proofs.Texts.{text-tallied}
 
--- the lines were written, or not all of them
+-- All lines were written, or only some of them.
 pub watched-all : {D T E : Type 0} (fences : List Fence) (file : List ℕ) (old new : Targets D) (v : TallyView) (wrote : Result T E) → RunsFile fences file old.drive new.drive v
     → Puts old.output.taken new.output.taken (view_text v) wrote → Counts old.output.faults new.output.faults wrote → EndsWatching fences file old new (written_status wrote)
 watched-all {T = T} {E = E} fences file old new v wrote runs puts counts =
@@ -49,11 +49,11 @@ watched-all {T = T} {E = E} fences file old new v wrote runs puts counts =
       attached = attaches-one file false old.drive new.drive (written_status wrote) runs.read.attached;
     }
 
--- a refusal's line, where it is another refusal or want of memory
+-- The line of a refusal, if it is another refusal or a lack of memory.
 named : (why other : Refusal) (status : ℕ) (before after : Output) → Refuses why status before after → (why ≡ other) ⊎ (why ≡ refusal.Memory) → Refuses other status before after ⊎ (status ≡ 9)
 named why other status before after refused = ⊎_elim (λ e. inl (subst (λ (r : Refusal). Refuses r status before after) e refused)) (λ e. inr (refused.status_is ∙ ap status_of e))
 
--- the line of why they weren't was put
+-- The line of why they weren't was written.
 pub watched-none : {D : Type 0} (fences : List Fence) (file : List ℕ) (old new : Targets D) (why : Refusal) (status : ℕ) → RefusesFile fences file old.drive new.drive why → Refuses why status old.output new.output
     → EndsWatching fences file old new status
 watched-none fences file old new why status none refused =
@@ -71,7 +71,7 @@ watched-none fences file old new why status none refused =
       attached = attaches-as file false old.drive new.drive status (status_of why) is none.attached;
     }
 
--- what is wrong with the bytes of a source is told, where its count didn't rise and memory didn't run out
+-- A fault in the bytes of a source is reported, if its fault count didn't rise and memory didn't run out.
 module _ {T : Type 0} (read : List ℕ → Result T RowsFault) (before after : Input) (calm : Rose before.faults after.faults → ⊥) (bytes : List ℕ) (told : before.left ≡ Some bytes) (result : Result T Refusal) (judged : judged_by read bytes ≡ result) where
   abbrev IsIt : Refusal → Type 0
   IsIt why = (result ≡ Err why) ⊎ (why ≡ refusal.Memory)
@@ -106,7 +106,7 @@ same-err e f is = cc is
 same-ok : {T E : Type 0} (x y : T) → ◌≡◌ {A = Result T E} (Ok x) (Ok y) → x ≡ y
 same-ok x y is = cc is
 
--- how a watch goes is what it promises
+-- A run of `watch` keeps its promise.
 module _ {S D : Type 0} (file : List ℕ) (done : Done (Ends S D)) where
   bad-input : (bytes : List ℕ) (why : Refusal) → done.old.input.left ≡ Some bytes → judged_by fences_of_text bytes ≡ Err why → (Rose done.old.input.faults done.new.input.faults → ⊥) → GoesAlong file done.old.input done.new.input done.old.to done.new.to done.status
       → Refuses why done.status done.old.to.output done.new.to.output ⊎ (done.status ≡ 9)

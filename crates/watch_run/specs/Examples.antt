@@ -1,4 +1,4 @@
--- A worked text: an object is put into one fence, moves to another one, and is dropped.
+-- A worked text: an object is put into one fence, moves to another one, and is removed.
 use Rattle.std.specs.Prelude.{◌≡◌, [], ◌∷◌, codes}
 use Rattle.std.proofs.Common.{refl}
 use Rattle.std.specs.Fmt.{digits}
@@ -18,7 +18,7 @@ passes_through : watched_text (first ∷ second ∷ []) 1 (cell.Put 7 (pt 3 5) 1
 unfolding watched_text digits
 passes_through = refl
 
--- who is there at the end is counted, and a cell of a split has a number too
+-- The objects that are inside at the end are counted. A cell of a split has a number too.
 stays_inside : watched_text (first ∷ []) 1 (cell.Begin 1 [] ∷ cell.Put 7 (pt 3 5) 10 ∷ cell.Put 9 (pt 8 8) 10 ∷ [])
     ≡ codes "cell,event,id,fence\n1,enter,7,1\nend,inside,1,1\n"
 unfolding watched_text digits

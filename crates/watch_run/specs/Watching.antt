@@ -26,8 +26,8 @@ use Rattle.fence_watch.specs.Crossings.{crossings}
 use Rattle.fence_watch.specs.Watches.{most_events}
 use Rattle.watch_run.specs.WatchLines.{watched_text}
 
--- The bytes begin with the head of a log that is read, with legal cells, few enough, and a commit byte behind them, and along these cells there
--- are more crossings than are kept.
+-- The bytes begin with the head of a log that is read, with legal cells, few enough, and a commit byte after them.
+-- These cells have more crossings than are kept.
 pub record IsCrowded (fences : List Fence) (bytes : List ℕ) : Type 0 where
   pub version : ℕ
   pub wanted : IsWanted oldest_read version
@@ -40,17 +40,18 @@ pub record IsCrowded (fences : List Fence) (bytes : List ℕ) : Type 0 where
   pub few : length cells ≤ most_inspected
   pub over : most_events < length (crossings cells fences)
 
--- where the drive's content is known, its bytes are so
+-- If the drive's content is known, its bytes are crowded.
 abbrev pub ShowsCrowd : List Fence → Drive → Type 0
 ShowsCrowd fences drive = (bytes : List ℕ) → drive.bytes ≡ Some bytes → IsCrowded fences bytes
 
--- why the crossings of a log aren't told: it isn't read, or there are too many of them
+-- Why the crossings of a log aren't written: the log isn't read, or it has too many crossings.
 abbrev pub IsWatchingCause : List Fence → Drive → Drive → Refusal → Type 0
 IsWatchingCause fences old new why = IsCheckingCause old new why ⊎ ((why ≡ refusal.LongEvents) × ShowsCrowd fences old)
 
--- What the bytes of the log decide, unless the drive's count rose or memory ran out: too many crossings are told, along the first cells too where
--- something is at fault behind them; else a fault that the bytes show is told; and bytes that recover to cells with few enough crossings have
--- their text, unless the sink's count rose.
+-- What the bytes of the log decide, unless the drive's fault count rose or memory ran out.
+-- - Too many crossings are reported, even if they are along the first cells and a fault follows these.
+-- - Otherwise a fault that the bytes show is reported.
+-- - Bytes that recover to cells with few enough crossings lead to their text, unless the sink's fault count rose.
 pub record IsDecidedAlong (fences : List Fence) (old new : Drive) (status : ℕ) (before after : Output) : Type 0 where
   pub over : (bytes : List ℕ) → old.bytes ≡ Some bytes → IsCrowded fences bytes → (Rose old.faults new.faults → ⊥)
       → Refuses refusal.LongEvents status before after ⊎ (status ≡ 9)
@@ -61,38 +62,38 @@ pub record IsDecidedAlong (fences : List Fence) (old new : Drive) (status : ℕ)
       → length cells ≤ most_inspected → length (crossings cells fences) ≤ most_events
       → (Rose old.faults new.faults → ⊥) → (Rose before.faults after.faults → ⊥) → (status ≡ 0) ⊎ (status ≡ 9)
 
--- The text of the crossings of these fences along the cells of the log, and of who is inside behind the last, or the line of a refusal. The
--- drive's bytes and images stay.
+-- The text of the crossings of these fences along the cells of the log, and of the objects inside after the last one.
+-- Or the line of a refusal. The drive's bytes and images stay the same.
 pub record EndsWatching {D : Type 0} (fences : List Fence) (file : List ℕ) (old new : Targets D) (status : ℕ) : Type 0 where
   pub ends : TellsCells (watched_text fences) old.drive status old.output new.output
       ⊎ EndsRefused (IsWatchingCause fences old.drive new.drive) status old.output new.output
   pub decided : IsDecidedAlong fences old.drive new.drive status old.output new.output
   pub stays : Stays old.drive new.drive
-  -- the drive's count is as it was, but where it is what is told to have failed
+  -- The drive's fault count is unchanged, unless the line says that the drive failed.
   pub calm : status ≢ 7 → new.drive.faults ≡ old.drive.faults
-  -- this file is attached, and none is made
+  -- This file is attached, and none is created.
   pub attached : AttachesOnce file false old.drive new.drive status
 
--- The source gave no fences: the drive is left as it was, and the source's count where it didn't fail. However much it has, at most one byte
--- behind the limit was taken of it.
+-- The source gave no fences. The drive is unchanged, and so is the source's fault count if the source didn't fail.
+-- However long the input is, at most one byte after the limit was read.
 pub record IsUnfenced {D : Type 0} (before after : Input) (old new : Targets D) (status : ℕ) : Type 0 where
   pub disk : new.disk ≡ old.disk
   pub calm : status ≢ 5 → after.faults ≡ before.faults
   pub refused : EndsRefused (IsTableCause fences_of_text before after) status old.output new.output
   pub taken : ConsumesUpTo (most_bytes + 1) before.left after.left
 
--- all that the source had was read, and its fences were watched along the log
+-- All bytes of the source were read, and its fences were watched along the log.
 pub record IsFenced {D : Type 0} (file : List ℕ) (before after : Input) (old new : Targets D) (status : ℕ) : Type 0 where
   pub fences : List Fence
   pub read : ReadsTable fences_of_text before after fences
   pub ends : EndsWatching fences file old new status
 
--- how a watch goes, of what its source gave and what it wrote to
+-- How a watch ends, depending on what its source gave and what it wrote to.
 abbrev pub GoesAlong : {D : Type 0} → List ℕ → Input → Input → Targets D → Targets D → ℕ → Type 0
 GoesAlong file before after old new status = IsUnfenced before after old new status ⊎ IsFenced file before after old new status
 
--- What `watch` promises. No row is called, and the second drive is left as it was. Bad fences have their refusal, whatever the log is, and with
--- good ones the log's bytes decide, unless the source's count rose or memory ran out.
+-- What `watch` promises. No row is called, and the second drive is unchanged. Bad fences lead to their refusal,
+-- whatever the log is. With good fences the log's bytes decide, unless the source's fault count rose or memory ran out.
 pub record Watches {S D : Type 0} (file : List ℕ) (done : Done (Ends S D)) : Type 0 where
   pub goes : GoesAlong file done.old.input done.new.input done.old.to done.new.to done.status
   pub none : done.history ≡ []

@@ -1,3 +1,3 @@
--- What only proofs need: a watch on its way, and the lines of what it keeps.
+-- What only proofs need: a watch in progress, and the lines of what it keeps.
 pub mod Along
 pub mod Lines

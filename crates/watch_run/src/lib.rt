@@ -1,10 +1,12 @@
-//! The command `watch`: tells who enters and leaves fences along the log in a file, and how many are inside at its end.
+//! The command `watch`. It reports which objects enter and leave fences along the log in a file, and how many are
+//! inside at its end.
 //!
-//! Contracts see fences as those that all bytes of the source say. `watch_log` promises the text of the crossings along the cells that the
-//! drive's bytes recover to, or the line of what is wrong first, with the source, the log, or the number of crossings. Of the drive it only
-//! reads. `Watches` is what a run of the command keeps.
+//! Contracts see fences as those of all bytes of the source. `watch_log` writes the crossings along the cells that the
+//! drive's bytes recover to. Otherwise it writes the line of the first fault: in the source, in the log, or in the
+//! number of crossings. It only reads the drive. `Watches` is what a run of the command keeps.
 //!
-//! Not here: who crosses a fence (`fence_watch`), how a log is walked (`recovery`), what commands share (`run_ends`).
+//! Not here: which object crosses a fence (`fence_watch`), how a log is walked (`recovery`), what commands share
+//! (`run_ends`).
 #![tactic(auto)]
 
 mod lines;

@@ -46,7 +46,7 @@ fn add_event(piece: &mut Piece, event: &Event)
     push_str(piece, "\n");
 }
 
-// Which way an object went, between its commas.
+// Whether an object entered or left, between commas.
 fn word_of(crossing: Crossing) -> &'static str
     ensures word { result.now ≡ way_text crossing }
     ensures short { length result.now ≤ 7 }
@@ -57,7 +57,7 @@ fn word_of(crossing: Crossing) -> &'static str
     }
 }
 
-// Adds the line of each fence: how many are inside it.
+// Adds the line of each fence, with how many objects are inside.
 fn add_ends<K: Sink>(
     sink: &mut K,
     piece: &mut Piece,

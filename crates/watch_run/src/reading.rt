@@ -10,7 +10,7 @@ use io_edge::Source;
 use run_ends::{Refusal, read_bytes, refusal_of};
 use std::alloc::Global;
 
-/// The fences of the source. The order of refusals: source, length of the input, fences.
+/// Reads the fences of the source. The order of refusals: source, length of the input, fences.
 pub(crate) fn read_watched<S: Source>(alloc: Global, source: &mut S) -> Result<Fences, Refusal>
     ensures fences { IfOk result (ReadsTable fences_of_text (S.input source.old) (S.input source.new)) }
     ensures cause { IfErr result (IsTableCause fences_of_text (S.input source.old) (S.input source.new)) }

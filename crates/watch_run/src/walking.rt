@@ -16,7 +16,7 @@ pub(crate) struct Along<D: LogDisk> {
     pub(crate) disk: D,
 }
 
-/// Watches the fences along the log in a file of this name, of version 1 or 2.
+/// Watches the fences along the log in a file of this name. The log has version 1 or 2.
 pub(crate) fn watch_file<D: LogDisk>(
     alloc: Global,
     file: &str,
@@ -32,7 +32,7 @@ pub(crate) fn watch_file<D: LogDisk>(
     watch_attached(alloc, fences, disk)
 }
 
-// Watches the fences along the log in the file that was attached.
+// Watches the fences along the log in the attached file.
 fn watch_attached<D: LogDisk>(
     alloc: Global,
     fences: &Fences,
@@ -91,7 +91,7 @@ fn watch_all<D: LogDisk>(
     Ok(watch)
 }
 
-// Goes with a watch along all cells of a walk that has begun.
+// Leads a watch along all cells of a walk that has begun.
 fn go_along<D: LogDisk>(walk: &mut Walk<D>, watch: &mut Tally) -> Result<(), Refusal>
     requires { (fences : List Fence) × IsBegun fences (D.drive walk.old.disk) walk.old watch.old }
     ensures along { (fences : List Fence) → IsBegun fences (D.drive walk.old.disk) walk.old watch.old
@@ -105,7 +105,7 @@ fn go_along<D: LogDisk>(walk: &mut Walk<D>, watch: &mut Tally) -> Result<(), Ref
     }
 }
 
-// The refusal of a fault of a watch.
+// The refusal for a fault of a watch.
 fn watch_refusal(fault: WatchFault) -> Refusal
     ensures { result ≡ watch_refusal fault }
 {

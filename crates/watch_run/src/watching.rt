@@ -12,11 +12,11 @@ use io_edge::{Sink, Source};
 use run_ends::{Drives, Ended, Unmade, refuse_on, without_rows, written};
 use std::alloc::Global;
 
-/// Tells who enters and leaves the fences of a source along the log in a file of this name, of version 1 or 2, and how many are inside each
-/// behind its last cell.
+/// Writes which objects enter and leave the fences of a source along the log in a file of this name, and how many are
+/// inside each fence after its last cell. The log has version 1 or 2.
 ///
-/// The order of work, and of refusals: source, length of the input, fences, attach, head of the log, its cells, lines. The first line is
-/// written once all cells were walked.
+/// The order of work, and of refusals: source, length of the input, fences, attach, head of the log, its cells, lines.
+/// The first line is written after all cells were walked.
 pub fn watch_log<S: Source, K: Sink, D: LogDisk>(
     alloc: Global,
     file: &str,
@@ -32,7 +32,7 @@ pub fn watch_log<S: Source, K: Sink, D: LogDisk>(
     }
 }
 
-// Tells of these fences along the log in a file.
+// Writes the crossings of these fences along the log in a file.
 fn tell_watch<K: Sink, D: LogDisk>(
     alloc: Global,
     file: &str,

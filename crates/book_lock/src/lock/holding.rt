@@ -14,8 +14,8 @@ use std::marker::Brand;
 use std::sync::Wait;
 
 impl<V: Held> BookLock<V> {
-    /// Waits until the lock is free, and takes it with the value. Nobody else can add to the history until the lock is
-    /// given back.
+    /// Waits until the lock is free, takes it and returns the value. No other caller can add to the history until the
+    /// lock is given back.
     pub fn take<R: Wait>(&self, rt: &R, pass: &mut Pass<V>) -> V
         requires lock { pass.old.lock ≡ self.now }
         requires off { pass.old.holds ≡ false }
@@ -57,7 +57,8 @@ impl<V: Held> BookLock<V> {
         self.table.shared.fetch_add::<Note<J>>(&mut pass.seat, 2, 1);
     }
 
-    /// Makes the value's newest entry the next of the history. Whoever ends a split has to own its begin.
+    /// Makes the value's newest entry the next one of the history. To end a split, a pass must own the begin of that
+    /// split.
     pub fn note(&self, pass: &mut Pass<V>, value: &V)
         requires lock { pass.old.lock ≡ self.now }
         requires on { pass.old.holds ≡ true }
@@ -65,7 +66,7 @@ impl<V: Held> BookLock<V> {
         requires entry { (e : Entry) × (V.entries value.now ≡ pass.old.seen ++ e ∷ []) × MayNote pass.old.seen pass.old.own e }
         ensures { pass.new ≡ record pass.old { seen = V.entries value.now; own = pass.old.own ++ length pass.old.seen ∷ [] } }
     {
-        // The number of entries fits a word, so the count of the history can't begin again at 0.
+        // The number of entries fits a word, so the count of the history can't wrap to 0.
         let _events = value.events();
         self.add::<Brand>(pass, value);
     }
@@ -80,7 +81,7 @@ impl<V: Held> BookLock<V> {
         let empty = self.table.shared.exchange(&mut pass.seat, 0, Some(value));
         let None = empty else { unreachable!() };
         self.table.shared.store::<Release>(&mut pass.seat, 1, 0);
-        // Behind the store: who isn't counted yet finds the lock free.
+        // After the store: a waiting caller that isn't counted yet finds the lock free.
         self.wake();
     }
 }

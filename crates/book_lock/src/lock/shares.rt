@@ -1,4 +1,4 @@
-//! Splitting and joining passes, and what one tells another.
+//! Splitting and joining passes, and passing on what one has seen.
 ghost use Rattle.std.specs.Prelude.{◌≡◌, ℕ, ◌+◌, ◌-◌, ◌<◌, ◌≤◌, false, []};
 ghost use mathlib.Core.List.{IsPrefix};
 ghost use Rattle.book_lock.specs.Own.{merge, times};
@@ -15,7 +15,7 @@ use atomic_table::Seat;
 use std::marker::Brand;
 
 impl<V: Held> BookLock<V> {
-    // Takes in what another seat knows, and compares what both have seen.
+    // Joins another seat to this one, and compares what both have seen.
     fn absorb(&self, seat: &mut Seat<Option<V>, View>, other: Seat<Option<V>, View>)
         requires lock { (seat.old.table_id ≡ self.now) × (other.table_id ≡ self.now) }
         requires off { (seat.old.me.1 ≡ []) × (other.me.1 ≡ []) × (seat.old.me.0.holds ≡ false) × (other.me.0.holds ≡ false) }
@@ -42,7 +42,8 @@ impl<V: Held> BookLock<V> {
         }
     }
 
-    /// A pass for another caller, which has seen the same, with so many of the parts. Who gets more than one may split off further ones.
+    /// A pass for another caller, with `parts` of the parts. It has seen the same. A pass with more than one part may
+    /// split off further ones.
     pub fn split_parts(&self, pass: &mut Pass<V>, parts: u64) -> Pass<V>
         requires lock { pass.old.lock ≡ self.now }
         requires off { pass.old.holds ≡ false }
@@ -53,7 +54,7 @@ impl<V: Held> BookLock<V> {
         self.cut::<Brand>(pass, parts)
     }
 
-    /// A pass for another caller, which has seen the same, with one part.
+    /// A pass for another caller, with one part. It has seen the same.
     pub fn split_pass(&self, pass: &mut Pass<V>) -> Pass<V>
         requires lock { pass.old.lock ≡ self.now }
         requires off { pass.old.holds ≡ false }
@@ -64,8 +65,8 @@ impl<V: Held> BookLock<V> {
         self.split_parts(pass, 1)
     }
 
-    /// Takes in another pass, with its positions and its parts. Both have seen beginnings of one history, so the longer
-    /// begins with the shorter.
+    /// Joins another pass to this one, with its positions and its parts. Both have seen a prefix of one history, so the
+    /// longer prefix begins with the shorter one.
     pub fn join_pass(&self, into: &mut Pass<V>, other: Pass<V>)
         requires lock { (into.old.lock ≡ self.now) × (other.lock ≡ self.now) }
         requires off { (into.old.holds ≡ false) × (other.holds ≡ false) }
@@ -77,7 +78,7 @@ impl<V: Held> BookLock<V> {
         self.absorb(&mut into.seat, seat);
     }
 
-    /// Tells `second` what `first` has seen.
+    /// Lets `second` know what `first` has seen.
     pub fn meet(&self, first: &mut Pass<V>, second: &mut Pass<V>)
         requires lock { (first.old.lock ≡ self.now) × (second.old.lock ≡ self.now) }
         requires off { (first.old.holds ≡ false) × (second.old.holds ≡ false) }

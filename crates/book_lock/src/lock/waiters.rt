@@ -1,31 +1,32 @@
-//! Who waits for a lock.
+//! The callers that wait for a lock.
 use std::hint;
 use std::sync::Wait;
 use std::sync::atomic::{AtomicU64, Ordering};
 
-/// How often one looks, with a short rest each time: some microseconds, and so longer than most steps take.
+/// How often a caller looks, with a short rest each time. It takes some microseconds, which is longer than most steps.
 const LOOKS: u32 = 200;
 
-/// How many prompt callers look at once whether they may be next.
+/// How many prompt callers look at the same time whether they may be next.
 const MOST_LOOKERS: u64 = 2;
 
-/// What stands in `next`: that nobody is to have the lock next, that one who sleeps is called to, or that one who is awake is to.
+/// The values of `next`. `NOBODY`: no prompt caller is next. `CALLED`: a sleeping one is called to be next. `AWAKE`:
+/// one that is awake is next.
 const NOBODY: u64 = 0;
 
 const CALLED: u64 = 1;
 
 const AWAKE: u64 = 2;
 
-/// Counters beside the lock's table, which no contract reads.
+/// Counters next to the lock's table. No contract reads them.
 #[derive(Drop)]
 pub(crate) struct Waiters {
-    /// How many nap, or sleep for a slow value, or are about to.
+    /// How many callers nap, or sleep for a slow value, or are about to.
     pub sleepers: AtomicU64,
     /// How many prompt callers sleep until they are called, or are about to.
     prompt: AtomicU64,
     /// How many prompt callers look whether they may be next.
     lookers: AtomicU64,
-    /// Whether a prompt caller is to have the lock next. One is at most.
+    /// Whether a prompt caller is to have the lock next. At most one is.
     next: AtomicU64,
 }
 
@@ -44,23 +45,24 @@ impl Waiters {
         self.next.load(Ordering::SeqCst) != NOBODY
     }
 
-    /// Whether one is to that is awake.
+    /// Whether the caller that is next is awake.
     pub fn has_next_awake(&self) -> bool {
         self.next.load(Ordering::SeqCst) == AWAKE
     }
 
-    // It changes from one to the other, where it is the one.
+    // Changes `next` from one value to the other, if it has the first one. Returns whether it did.
     fn change(&self, from: u64, to: u64) -> bool {
         let order = Ordering::SeqCst;
         self.next.load(order) == from && self.next.compare_exchange(from, to, order, order).is_ok()
     }
 
-    /// The caller that was next isn't any more.
+    /// The caller that was next no longer is.
     pub fn leave(&self) {
         self.next.store(NOBODY, Ordering::SeqCst);
     }
 
-    /// Makes the caller the next one, if it is so at once or after a few looks. Only so many look.
+    /// Makes the caller the next one, at once or after a few looks, and returns whether it did. At most `MOST_LOOKERS`
+    /// callers look at a time.
     pub fn comes_next(&self) -> bool {
         self.change(NOBODY, AWAKE) || self.looks_to_be_next()
     }
@@ -90,7 +92,7 @@ impl Waiters {
         self.prompt.fetch_add(1, Ordering::SeqCst);
     }
 
-    /// Sleeps until the caller, which was counted, is the next one.
+    /// Sleeps until the caller is the next one. The caller was counted before.
     pub fn sleep<R: Wait>(&self, rt: &R) {
         for _ in rt.forever() {
             if self.change(CALLED, AWAKE) {
@@ -101,7 +103,7 @@ impl Waiters {
         self.prompt.fetch_sub(1, Ordering::SeqCst);
     }
 
-    // Sleeps unless one is called.
+    // Sleeps unless a caller is called.
     fn park<R: Wait>(&self, rt: &R) {
         let next = self.next.load(Ordering::SeqCst);
         if next != CALLED {
@@ -109,7 +111,7 @@ impl Waiters {
         }
     }
 
-    /// Calls one of the prompt callers that sleep, if there is one and nobody is next.
+    /// Calls one of the sleeping prompt callers, if there is one and no caller is next.
     pub fn call(&self) {
         if self.prompt.load(Ordering::SeqCst) > 0 && self.change(NOBODY, CALLED) {
             self.next.wake_one();

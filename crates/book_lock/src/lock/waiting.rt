@@ -1,6 +1,6 @@
-//! Waiting for the lock, and waking those who wait.
+//! Waiting for the lock, and waking the callers that wait.
 //!
-//! No contract speaks of it. That no wake-up is missed is argued in `docs/ARCHITECTURE.md`, "Waiting".
+//! No contract is about waiting. `docs/ARCHITECTURE.md`, "Waiting", argues that no wake-up is missed.
 use super::BookLock;
 use crate::held::Held;
 use crate::manner::Manner;
@@ -9,28 +9,30 @@ use std::sync::atomic::Ordering;
 use std::time::Duration;
 use std::{hint, thread};
 
-/// How often a caller that naps, or sleeps for a slow value, lets others run before it does.
+/// How often a caller that naps, or sleeps for a slow value, lets others run first.
 const YIELDS: u32 = 8;
 
-/// How many milliseconds one of a batch naps: if it is to change the value, so many for each that naps. So mostly one of these wakes
-/// in that time, and meanwhile some thousand steps are taken by whoever has the value in its processor's cache.
+/// How long one of a batch naps, in milliseconds. A caller that changes the value naps that long for each caller that
+/// naps. So usually one of them wakes in that time. Until then the thread that has the value in its processor's cache
+/// makes some thousand steps.
 const NAP: u64 = 4;
 
-/// Callers that nap, beyond which a nap isn't longer.
+/// The number of napping callers above which a nap gets no longer.
 const MOST_NAPPERS: u64 = 16;
 
-/// How often a prompt caller that is next looks at the word before it sleeps, with a short rest each time: some microseconds, and so
-/// longer than most steps take.
+/// How often a prompt caller that is next looks at the word before it sleeps, with a short rest each time. It takes
+/// some microseconds, which is longer than most steps.
 const LOOKS: u32 = 200;
 
-/// How often a caller has the lock without a wait before it lets in who is next.
+/// How often a caller has the lock without a wait before it lets the next one in.
 const TURNS: u32 = 64;
 
-/// How often it then looks whether the other has come.
+/// How often it then looks whether the other one has come.
 const WAY: u32 = 400;
 
 impl<V: Held> BookLock<V> {
-    // Waits for a while, where the lock was taken so many times. Gives the new number of times: for a prompt caller 0 until it is next.
+    // Waits for a while, after it found the lock taken `misses` times. Returns the new number. For a prompt caller it
+    // is 0 until the caller is next.
     pub(super) fn pause<R: Wait>(&self, rt: &R, misses: u32, manner: Manner) -> u32 {
         if self.is_patient(manner) {
             self.pause_patiently(rt, misses, manner)
@@ -45,7 +47,7 @@ impl<V: Held> BookLock<V> {
         self.is_slow || manner.is_batch
     }
 
-    // Lets others run, and sleeps where that has not helped so many times.
+    // Lets others run. After `YIELDS` times without success it sleeps.
     fn pause_patiently<R: Wait>(&self, rt: &R, misses: u32, manner: Manner) -> u32 {
         if misses < YIELDS {
             thread::yield_now();
@@ -76,15 +78,16 @@ impl<V: Held> BookLock<V> {
         self.waiters.sleepers.fetch_sub(1, Ordering::SeqCst);
     }
 
-    // Counted before it sleeps: a holder that frees the lock either sees the count and wakes one, or freed it before
-    // the count rose, and then the word isn't 1 any more and the sleep ends at once.
+    // Counted before it sleeps. A holder that frees the lock may see the count, and then it wakes one caller. Otherwise
+    // it freed the lock before the count rose. Then the word is no longer 1, and the sleep ends at once.
     fn sleep_until_woken<R: Wait>(&self, rt: &R) {
         self.waiters.sleepers.fetch_add(1, Ordering::SeqCst);
         self.table.shared.park(rt, 1, 1);
         self.waiters.sleepers.fetch_sub(1, Ordering::SeqCst);
     }
 
-    // Until the caller is next; or, where it is, until the lock is free, or it has slept and is next again.
+    // Waits until the caller is next. If it is next, waits until the lock is free, or until it has slept and is next
+    // again.
     fn pause_promptly<R: Wait>(&self, rt: &R, is_next: bool) {
         if is_next {
             if !self.look() {
@@ -100,7 +103,7 @@ impl<V: Held> BookLock<V> {
         self.table.shared.peek(1) == 0
     }
 
-    // Looks at the word until the lock is free, or so many times. Tells whether it was free.
+    // Looks at the word until the lock is free, at most `LOOKS` times. Returns whether it was free.
     fn look(&self) -> bool {
         for _ in 0..LOOKS {
             if self.is_free() {
@@ -111,8 +114,8 @@ impl<V: Held> BookLock<V> {
         false
     }
 
-    // Counted before it looks at the word: who frees the lock either sees the count, or has freed it before, and then this caller
-    // calls one, as that one would have done.
+    // Counted before it looks at the word. A holder that frees the lock may see the count. Otherwise it freed the lock
+    // before, and then this caller calls one, as the holder would have done.
     fn sleep_until_called<R: Wait>(&self, rt: &R) {
         self.waiters.count();
         if self.is_free() {
@@ -121,7 +124,8 @@ impl<V: Held> BookLock<V> {
         self.waiters.sleep(rt);
     }
 
-    // Lets in who is next, where the caller has had the lock so often without a wait. Gives how it waits from then on.
+    // Lets the next caller in, if this one has had the lock `TURNS` times without a wait. Returns how it waits from
+    // then on.
     pub(super) fn give_way(&self, manner: Manner) -> Manner {
         if manner.turns < TURNS || !self.waiters.has_next() {
             return manner;
@@ -133,7 +137,7 @@ impl<V: Held> BookLock<V> {
         manner.having_waited(true)
     }
 
-    // Looks until the lock is taken, or nobody who is awake is next, or so many times.
+    // Looks until the lock is taken, or until no awake caller is next, at most `WAY` times.
     fn look_aside(&self) {
         for _ in 0..WAY {
             if !self.is_free() || !self.waiters.has_next_awake() {
@@ -143,7 +147,7 @@ impl<V: Held> BookLock<V> {
         }
     }
 
-    // The caller has the lock, after so many misses. Gives how it waits from then on.
+    // The caller has the lock, after `misses` misses. Returns how it waits from then on.
     pub(super) fn arrive(&self, manner: Manner, misses: u32) -> Manner {
         if misses > 0 && !self.is_patient(manner) {
             self.waiters.leave();
@@ -151,7 +155,8 @@ impl<V: Held> BookLock<V> {
         manner.having_waited(misses > 0)
     }
 
-    // Wakes a caller that sleeps until it is woken, if there is one: for a quick value a prompt one. Without one it makes no system call.
+    // Wakes a caller that sleeps until it is woken, if there is one. For a quick value that is a prompt caller. If
+    // there is none, it makes no system call.
     pub(super) fn wake(&self) {
         if !self.is_slow {
             self.waiters.call();
@@ -160,7 +165,8 @@ impl<V: Held> BookLock<V> {
         }
     }
 
-    /// Wakes one who naps, or sleeps for a slow value, if there is one: for a caller of a batch that won't come back soon.
+    /// Wakes a caller that naps, or sleeps for a slow value, if there is one. A caller of a batch that won't come back
+    /// soon should call it.
     pub fn rouse(&self) {
         if self.waiters.sleepers.load(Ordering::SeqCst) > 0 {
             self.table.shared.wake_one(1);

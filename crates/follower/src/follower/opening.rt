@@ -20,8 +20,9 @@ use split_log::SplitLog;
 use std::alloc::Global;
 
 impl<D: LogDisk> Follower<D> {
-    /// Follows the leader of these cells, whose splits make `2 ^ width` children, on a drive with at most 17 bytes, of which a log is made,
-    /// or with a log of version 2. What isn't taken is left as it was.
+    /// Follows the leader of these cells, whose splits create `2 ^ width` children. The drive's file has at most 17
+    /// bytes, and the call creates a log in it. Or the file is a log of version 2 that has the leader's first cells. A
+    /// file that is refused stays unchanged, unless the drive fails.
     pub fn open(
         alloc: Global,
         disk: D,
@@ -56,7 +57,7 @@ impl<D: LogDisk> Follower<D> {
     }
 }
 
-// The log, as it's found or as it's made.
+// The log, as it is found or created.
 fn make_or_open<D: LogDisk>(
     alloc: Global,
     disk: D,
@@ -70,7 +71,7 @@ fn make_or_open<D: LogDisk>(
     ensures any_moment { MatchResult result (λ log. KeepsTarget width cells.now (D.drive disk) (D.drive log.disk))
         (λ e. KeepsTarget width cells.now (D.drive disk) (D.drive e.disk)) }
 {
-    // It asks for the length, and answers `InUse` before it writes: so the length is asked for once.
+    // `init` reads the length, and returns `InUse` before it writes. So the length is read once.
     match init(disk, width) {
         Ok(disk) => Ok(SplitLog::adopt(disk, 0)),
         Err(refused) => match refused.cause {

@@ -33,7 +33,7 @@ impl<D: LogDisk> Follower<D> {
         }
     }
 
-    // A packet with the number of a cell is on its way.
+    // A packet with the number of a cell is sent.
     fn send(mut self, cell: u64) -> Result<Follower<D>, FollowRefused<D>>
         ensures sent { IfOk result (λ f. f ≡ with_state (after_turn 0 self.state (Send cell)) self) }
         ensures memory { IfErr result (λ e. (e.disk ≡ self.disk) × (e.fault ≡ Memory)) }
@@ -44,7 +44,7 @@ impl<D: LogDisk> Follower<D> {
         }
     }
 
-    // So many cells are known to be held, if an acknowledgement says more than was known.
+    // The leader knows that more cells are held, if this acknowledgement says more than the earlier ones.
     fn learn(mut self, number: u32) -> Follower<D>
         requires { (1 ≤ number) × (number ≤ length self.state.acks) }
         ensures { result ≡ with_state (after_turn 0 self.state (Ack number)) self }
@@ -67,7 +67,7 @@ impl<D: LogDisk> Follower<D> {
         }
     }
 
-    // The cell that a packet brings, if it's the next one.
+    // The cell that a packet carries, if it is the next one.
     fn next_in<'a>(&self, cells: &'a [Cell], packet: u32) -> Option<&'a Cell>
         requires { (1 ≤ packet) × (packet ≤ length self.now.state.packets) }
 
@@ -82,7 +82,7 @@ impl<D: LogDisk> Follower<D> {
         Some(&cells[named as usize])
     }
 
-    // The number of cells goes on its way to the leader.
+    // The number of cells is sent to the leader.
     fn acknowledge(mut self) -> Result<Follower<D>, FollowRefused<D>>
         ensures sent { IfOk result (λ f. f ≡ with_state (acknowledging self.state.held self.state) self) }
         ensures memory { IfErr result (λ e. (e.disk ≡ self.disk) × (e.fault ≡ Memory)) }
@@ -101,7 +101,7 @@ impl<D: LogDisk> Follower<D> {
         ensures added { IfOk result (IsAdded D.drive cell.now self) }
         ensures lost { IfErr result (λ e. IsLost D.drive cell.now self e.disk e.fault) }
     {
-        // The memory first, so that behind a cell that was added nothing fails.
+        // The memory first, so that nothing can fail after a cell was added.
         let held = self.log.cells() + 1;
         if self.acks.push(held).is_err() {
             return Err(self.refuse(FollowFault::Memory));
@@ -116,7 +116,7 @@ impl<D: LogDisk> Follower<D> {
         }
     }
 
-    // Opens the log again, and goes on with what was sent.
+    // Opens the log again, and keeps what was sent.
     fn restart(self, cells: &[Cell]) -> Result<Follower<D>, FollowRefused<D>>
         requires holds { HoldsFirst D.drive cells.now self }
 

@@ -1,4 +1,4 @@
--- How a watch goes along the cells of a log.
+-- How a watch follows the cells of a log.
 use Rattle.std.specs.Prelude.{◌≡◌, ◌≢◌, ◌⊎◌, ◌≤◌, ℕ, List, [], length, Some, false, None}
 use Rattle.causes.specs.Causes.{Rose}
 use Rattle.disk_trait.specs.Drive.{Drive, SameFile, Stays}
@@ -23,13 +23,13 @@ use Rattle.fence_watch.specs.declared.watch.WatchFault.{WatchFault}
 use Rattle.fence_watch.specs.declared.watch.WatchFault.TheVariants as fault
 use Rattle.watch_run.specs.Watching.{IsCrowded, IsWatchingCause}
 
--- the drive was only read, and no call failed
+-- The drive was only read, and no call failed.
 pub record IsCalm (old new : Drive) : Type 0 where
   pub stays : Stays old new
   pub same : new.faults ≡ old.faults
   pub file : SameFile old new
 
--- a watch along all cells of a log
+-- A watch along all cells of a log.
 pub record FindsAlong (fences : List Fence) (old : Drive) (v : TallyView) : Type 0 where
   pub width : ℕ
   pub cells : List Cell
@@ -37,18 +37,18 @@ pub record FindsAlong (fences : List Fence) (old : Drive) (v : TallyView) : Type
   pub tallies : TalliesCells [] cells fences v
   pub under : length v.events ≤ most_events
 
--- of one that was attached already
+-- A watch along the log that was already attached.
 pub record RunsAlong (fences : List Fence) (old new : Drive) (v : TallyView) : Type 0 where
   pub finds : FindsAlong fences old v
   pub calm : IsCalm old new
 
--- of the one in a file of this name
+-- A watch along the log in the file of this name.
 pub record RunsFile (fences : List Fence) (file : List ℕ) (old new : Drive) (v : TallyView) : Type 0 where
   pub finds : FindsAlong fences old v
   pub read : HasReadLog file old new
   pub stays : Stays old new
 
--- why a watch doesn't come to the log's end, and what the bytes say of that
+-- Why a watch doesn't come to the log's end, and what the bytes say about that.
 pub record RefusesAlong (fences : List Fence) (old new : Drive) (why : Refusal) : Type 0 where
   pub cause : IsWatchingCause fences old new why
   pub over : (bytes : List ℕ) → old.bytes ≡ Some bytes → IsCrowded fences bytes → (Rose old.faults new.faults → ⊥)
@@ -62,26 +62,26 @@ pub record RefusesAlong (fences : List Fence) (old new : Drive) (why : Refusal) 
   pub stays : Stays old new
   pub calm : status_of why ≢ 7 → new.faults ≡ old.faults
 
--- the same of the log in a file of this name
+-- The same for the log in a file of this name.
 pub record RefusesFile (fences : List Fence) (file : List ℕ) (old new : Drive) (why : Refusal) : Type 0 where
   pub refuses : RefusesAlong fences old new why
   pub attached : AttachesOnce file false old new (status_of why)
 
--- of one that was attached already
+-- The same for a log that was already attached.
 pub record RefusesAttached (fences : List Fence) (old new : Drive) (why : Refusal) : Type 0 where
   pub refuses : RefusesAlong fences old new why
   pub file : SameFile old new
 
--- a walk before the first cell of a log, by the width that it has
+-- A walk before the first cell of a log, with its own width.
 abbrev pub IsStarted : {D : Type 0} → Drive → WalkView D → Type 0
 IsStarted drive walk = ComesAlong walk.reading.replay.width most_inspected [] drive walk
 
--- with a watch of these fences
+-- Such a walk, with a watch of these fences.
 pub record IsBegun {D : Type 0} (fences : List Fence) (drive : Drive) (walk : WalkView D) (v : TallyView) : Type 0 where
   pub started : IsStarted drive walk
   pub none : TalliesCells [] [] fences v
 
--- the refusal of a fault of a watch
+-- The refusal for a fault of a watch.
 abbrev pub watch_refusal : WatchFault → Refusal
 watch_refusal fault.TooMany = refusal.LongEvents
 watch_refusal fault.Memory = refusal.Memory

@@ -1,4 +1,4 @@
--- Each call that fails ends the clearing; what stands then follows from which ones went well before.
+-- A call that fails ends the clearing. The calls before it decide what is on the drive.
 use Rattle.std.proofs.Common.{true, false, [], ◌∷◌, sym, ◌∙◌, lit≤}
 use Rattle.disk_trait.proofs.Calls.{made-then}
 use Rattle.split_log.proofs.Kept.{on_err}

@@ -1,4 +1,4 @@
--- A log that has cells has more than 17 bytes, and one that has none is left.
+-- A log that has cells has more than 17 bytes. A log that has none stays unchanged.
 use Rattle.std.proofs.Common.{ℕ, sym, ◌∙◌, subst}
 use Rattle.split_log.specs.LogView.{KeepsLog}
 use Rattle.log_compact.proofs.Clearings.{back-within, some-clears, none-clears}

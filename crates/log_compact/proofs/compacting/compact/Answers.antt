@@ -1,4 +1,4 @@
--- A log of no cells is made, and then all cells are written over it.
+-- A log of no cells is created, and then all cells are written over it.
 use Rattle.std.proofs.Common.{List, subst}
 use Rattle.cell_format.specs.declared.cell.Cell.{Cell}
 use Rattle.log_compact.specs.Compacting.{IsCompacted, KeepsOnWay}
@@ -29,4 +29,4 @@ returns-in-Err-write_cells-clause-any_moment g c =
 pub returns-in-Err-write_cells-clause-refused : goal.returns-in-Err-write_cells-clause-refused
 returns-in-Err-write_cells-clause-refused g c =
     failed-after c.args.width c.of-cells.result c.of-cells.ensures.state.legal (g.D.LogDisk.drive c.args.target) (g.D.LogDisk.drive c.in-Ok.disk) (g.D.LogDisk.drive c.write_cells.new.disk)
-    c.in-Ok.ensures.made c.in-Err-write_cells.ensures.cause.failed c.in-Err-write_cells.ensures.stopped
+    c.in-Ok.ensures.made c.write_cells.ensures.told c.in-Err-write_cells.ensures.cause.failed c.in-Err-write_cells.ensures.stopped

@@ -1,4 +1,4 @@
--- Each prefix is one of the names or isn't, and behind the last one no name is left.
+-- Each prefix is one of the names or isn't. After the last prefix no name is left.
 use Rattle.std.proofs.Common.{◌<◌, ◌≤◌, length, sym, ◌∙◌, ap, arith, take}
 use Rattle.zorder.specs.Key.{key_bits}
 use Rattle.log_compact.proofs.Lefts.{is-next, not-aligned, not-first, left_at-none}

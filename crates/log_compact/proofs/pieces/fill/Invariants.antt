@@ -3,7 +3,7 @@ use Rattle.split_log.specs.LogText.{behind_first}
 use Rattle.log_compact.specs.Staging.{AreCells}
 use Rattle.log_compact.proofs.pieces.fill.Given as goal
 
--- the piece so far, and what stands behind the commit byte of the cell that is next
+-- The piece so far, and the bytes after the commit byte of the next cell.
 abbrev pub invariant-loop-place : goal.invariant-loop-place
 invariant-loop-place l = record {
   text : behind_first (l.fn.first ∷ l.initial.cells) ≡ take (32 * l.place) l.piece ++ behind_first (l.cell ∷ l.cells);

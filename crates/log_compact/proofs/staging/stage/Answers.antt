@@ -1,4 +1,4 @@
--- Each piece goes behind the last one, and behind the first commit byte.
+-- Each piece goes after the last one, and after the first commit byte.
 use Rattle.std.proofs.Common.{◌≡◌, ◌+◌, ◌*◌, ◌^◌, ◌≤◌, ◌<◌, ◌∷◌, ℕ, List, length, take, ◌∙◌, ap, subst, arith, length-append, length-take}
 use Rattle.cell_format.specs.declared.cell.Cell.{Cell}
 use Rattle.disk_trait.specs.Drive.{Drive}
@@ -10,7 +10,7 @@ use Rattle.log_compact.specs.Staging.{and_taken, IsStaging}
 use Rattle.log_compact.proofs.Stages.{staging-none, staging-more, staged-all, still-alone, length-behind_first}
 use Rattle.log_compact.proofs.staging.stage.Goals as goal
 
--- so far goes what was sent, at most all
+-- The place is at most that of the whole text.
 reach : (first : Cell) (cells rest : List Cell) (at : ℕ) (start now : Drive) → IsStaging (first ∷ cells) rest at start now → length cells < 2 ^ 24 → at ≤ 17 + 32 * 2 ^ 24
 reach first cells rest at start now staging few =
     omega (arith, staging.at_is, ap length staging.parts, length-append staging.sent (behind_first rest), length-behind_first first cells, few)

@@ -1,4 +1,4 @@
--- Until the first commit byte is set a crash leaves no cell, and from then on none or all.
+-- Until the first commit byte is set a crash leaves no cell. From then on it leaves none or all.
 use Rattle.std.proofs.Common.{List, [], ◌∷◌, sym, ◌∙◌, subst}
 use Rattle.std.proofs.lemmas.Result.{on_ok_weaker, on_err_weaker}
 use Rattle.recovery.proofs.CallLemmas.{well-then, ends-then}

@@ -36,7 +36,7 @@ returns-in_err-sync-clause-made g c =
 
 pub returns-in_err-len-clause-refused : goal.returns-in_err-len-clause-refused
 returns-in_err-len-clause-refused g c =
-    refused_on c.from_residual.result _ _ c.from_residual.ensures.1 (record { rose = c.in_err-len.ensures.cause.failed; calls = inl c.len.ensures.stays.calls })
+    refused_on c.from_residual.result _ _ c.from_residual.ensures.1 (record { rose = c.in_err-len.ensures.cause.failed; told = ap is_some c.len.ensures.stays.bytes; calls = inl c.len.ensures.stays.calls })
 
 pub returns-in_err-len-clause-small : goal.returns-in_err-len-clause-small
 returns-in_err-len-clause-small g c =
@@ -55,6 +55,7 @@ returns-in_err-write-clause-refused g c =
     let rose : Rose (g.D.LogDisk.drive c.args.disk.now).faults (g.D.LogDisk.drive c.write.new.self).faults = omega (arith, c.in_ok-len.ensures.cause.same, c.in_err-write.ensures.cause.failed) in
     refused_on c.from_residual-in_err-write.result _ _ c.from_residual-in_err-write.ensures.1 (record {
       rose = rose;
+      told = c.write.ensures.writes.told ∙ ap is_some c.len.ensures.stays.bytes;
       calls = inr (0, record { few = lit≤ tt; calls = still-made (false ∷ []) (g.D.LogDisk.drive c.args.disk.now) (g.D.LogDisk.drive c.len.new.self) (g.D.LogDisk.drive c.write.new.self) c.len.ensures.stays.calls c.in_err-write.ensures.made });
     })
 
@@ -63,6 +64,7 @@ returns-in_err-sync-clause-refused g c =
     let rose : Rose (g.D.LogDisk.drive c.args.disk.now).faults (g.D.LogDisk.drive c.sync.new.self).faults = omega (arith, c.in_ok-len.ensures.cause.same, c.in_ok-write.ensures.cause.same, c.in_err-sync.ensures.cause.failed) in
     refused_on c.from_residual-in_err-sync.result _ _ c.from_residual-in_err-sync.ensures.1 (record {
       rose = rose;
+      told = ap is_some c.sync.ensures.syncs.bytes ∙ c.write.ensures.writes.told ∙ ap is_some c.len.ensures.stays.bytes;
       calls = inr (
         1,
         record {

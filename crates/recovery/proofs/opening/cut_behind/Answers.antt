@@ -30,7 +30,7 @@ returns-in_err-cut-clause-done g c =
 
 pub returns-in_err-cut-clause-told : goal.returns-in_err-cut-clause-told
 returns-in_err-cut-clause-told g c =
-    not_made c.from_residual.result _ _ c.from_residual.ensures.1
+    c.cut.ensures.cuts.told
 
 pub returns-in_err-sync-clause-done : goal.returns-in_err-sync-clause-done
 returns-in_err-sync-clause-done g c =
@@ -38,7 +38,7 @@ returns-in_err-sync-clause-done g c =
 
 pub returns-in_err-sync-clause-told : goal.returns-in_err-sync-clause-told
 returns-in_err-sync-clause-told g c =
-    not_made c.from_residual-in_err-sync.result _ _ c.from_residual-in_err-sync.ensures.1
+    ap is_some c.sync.ensures.syncs.bytes ∙ c.cut.ensures.cuts.told
 
 pub returns-in_err-cut-clause-cause : goal.returns-in_err-cut-clause-cause
 returns-in_err-cut-clause-cause g c =

@@ -64,7 +64,7 @@ returns-in_err-cut_behind-clause-refused g c =
       fault = refuses_read newest c.args.wanted.width c.args.wanted.most _ _ _ (lit≤ tt) (λ bytes told. tt) tt (λ disk. omega (arith, c.sync.ensures.cause.later, c.read_log.ensures.reads.later, c.in_err-cut_behind.ensures.cause.failed));
       leaves = refused_cut c.args.wanted.width c.in_ok-found.found.width c.args.wanted.most c.in_ok-found.found.len (drive c.args.disk.now) (drive c.sync.new.self) (drive c.read_log.new.disk) (drive c.cut_behind.new.disk) c.in_ok-found.found.seen
           (newest-last (drive c.args.disk.now) (drive c.sync.new.self) (drive c.read_log.new.disk) (drive c.cut_behind.new.disk) c.sync.result (laws c.args.disk.now) (laws c.sync.new.self) c.sync.ensures.syncs c.read_log.ensures.reads.stays (c.cut_behind.ensures.newest (omega arith)))
-          c.sync.ensures.syncs.bytes c.in_ok-found.ensures.found c.in_ok-sync.ensures.made c.read_log.ensures.reads.stays c.in_err-cut_behind.ensures.calls
+          c.sync.ensures.syncs.bytes c.in_ok-found.ensures.found c.in_ok-sync.ensures.made c.read_log.ensures.reads.stays c.cut_behind.ensures.told c.in_err-cut_behind.ensures.calls
           (λ all told. c.sync.ensures.cause.file all (c.read_log.ensures.reads.file all (c.cut_behind.ensures.cause.file all told)));
     })
 
@@ -102,7 +102,7 @@ returns-clause-opened g c =
           (newest-last (drive c.args.disk.now) (drive c.sync.new.self) (drive c.read_log.new.disk) (drive c.cut_behind.new.disk) c.sync.result (laws c.args.disk.now) (laws c.sync.new.self) c.sync.ensures.syncs c.read_log.ensures.reads.stays (c.cut_behind.ensures.newest (omega arith)))
           (c.in_ok-cut_behind.ensures.cause.same ∙ c.in_ok-found.ensures.reads.same ∙ c.in_ok-sync.ensures.cause.same)
           (λ all told. c.sync.ensures.cause.file all (c.read_log.ensures.reads.file all (c.cut_behind.ensures.cause.file all told))) calls
-          c.in_ok-sync.ensures.syncs.done c.in_ok-cut_behind.ensures.told c.in_ok-cut_behind.ensures.done;
+          c.in_ok-sync.ensures.syncs.done c.cut_behind.ensures.told c.in_ok-cut_behind.ensures.done;
     }
 
 pub cut_behind-requires-clause-within : goal.cut_behind-requires-clause-within

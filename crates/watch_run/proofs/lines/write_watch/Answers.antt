@@ -8,7 +8,7 @@ use Rattle.watch_run.specs.WatchLines.{event_line, watch_title}
 use Rattle.watch_run.specs.inside.Lines.{counted_line, view_text}
 use Rattle.watch_run.proofs.lines.write_watch.Goals as goal
 
--- the three parts of the text
+-- The three parts of the text.
 parts : (v : TallyView) (empty front : List ℕ) (events : List Event) (counts : List FenceCount) → empty ≡ [] → front ≡ empty ++ watch_title → events ≡ v.events → counts ≡ v.counts
     → (front ++ flat_map event_line events) ++ flat_map counted_line counts ≡ view_text v
 parts v empty front events counts none e is are =

@@ -13,7 +13,7 @@ use Rattle.fence_watch.proofs.HistorySteps.{tallies-change}
 use Rattle.fence_watch.proofs.WorldSteps.{follows-on}
 use Rattle.fence_watch.proofs.tally.Tally.changed.Goals as goal
 
--- what follows of a step that is a change
+-- What follows from a step that is a change.
 module _ (c : Change) (old new : TallyView) where
   abbrev KeepsWorlds : Type 0
   KeepsWorlds = (world : World) (op : Op) (fences : List Fence) → FollowsWorld world fences old → change_of c.place op (answer_of world op) ≡ Some c → FollowsWorld (after_of world op) fences new

@@ -26,7 +26,7 @@ GoesBehind walked old new =
     (w : ℕ) (front : List Cell) (taken : List Event) (cells : List Cell) (fences : List Fence) → TalliesFrom (length front) (state_of w front).world taken cells fences old
     → IsNextWalked w (front ++ cells) walked → TalliesFrom (length front) (state_of w front).world taken (cells ++ walked.cell ∷ []) fences new
 
--- what follows of a step along a cell
+-- What follows from a step along a cell.
 module _ (walked : Walked) (old new : TallyView) (tallies : Tallies walked old new) where
   on : GoesOn walked old new
   on w taken cells fences t n = tallies-step w taken cells fences walked old new t n tallies
@@ -41,7 +41,7 @@ with_ok : {A B : Type 0} (r : Result (Unit {0}) WatchFault) → OnOk r A → (A 
 with_ok (Ok x) a f = f a
 with_ok (Err e) a f = tt
 
--- in the words of the cell
+-- The same, in terms of the cell.
 of_cell : (r : Result (Unit {0}) WatchFault) (walked : Walked) (id : ℕ) (old new : TallyView) → object_of walked.cell ≡ Some id → OnOk r (TalliesBy walked.at (Some id) walked.before walked.after old new) → OnOk r (Tallies walked old new)
 of_cell r walked id old new is ok = with_ok r ok (subst (λ (o : Option ℕ). TalliesBy walked.at o walked.before walked.after old new) (sym is))
 

@@ -40,7 +40,7 @@ same-guards (g ∷ guards) = ap (λ (l : List Guard). g ∷ l) (same-guards guar
 nobody : (o : Option ℕ) → o ≡ None → (before after : Option Point) (guards : List Guard) → guards ≡ map (guard_behind o before after) guards
 nobody o e before after guards = same-guards guards ∙ ap (λ (x : Option ℕ). map (guard_behind x before after) guards) (sym e)
 
--- a cell of a split moves nobody
+-- A cell of a split moves no object.
 stays : (walked : Walked) (v : WatchView) → object_of walked.cell ≡ None → Steps walked v v
 stays walked v none = record {
   events = sym (append-nil v.events) ∙ ap (λ (l : List Event). v.events ++ l) (sym (nothing (object_of walked.cell) none walked.at walked.before walked.after (fences_of v.guards)));

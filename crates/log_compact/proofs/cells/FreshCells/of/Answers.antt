@@ -1,4 +1,4 @@
--- The names that are met at the leaves are the inner names.
+-- The names that come at the leaves are the inner names.
 use Rattle.std.proofs.Common.{◌≡◌, ℕ, length, List, Bool, false, sym, ◌∙◌, ap, subst, arith}
 use Rattle.cell_format.specs.declared.cell.Cell.{Cell}
 use Rattle.plain_list.specs.World.{World}
