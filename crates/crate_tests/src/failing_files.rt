@@ -1,5 +1,5 @@
 //! A drive over files of the test's own, one call of which fails: what the drive answers then, and what it asks of its file.
-use disk_file::{FileDisk, Hold, LockFile};
+use disk_file::{FileDisk, Hold, LockFile, Reason};
 use disk_trait::LogDisk;
 use std::alloc::{Allocator, Global};
 use std::cell::Cell;
@@ -251,6 +251,8 @@ struct Case {
     attaches: bool,
     told: Told,
     asked: Asked,
+    // Why a call failed, the attach and all of them.
+    reasons: (Option<Reason>, Option<Reason>),
 }
 
 const NO_FILE: Told = (None, None, false, false, false);
@@ -262,96 +264,112 @@ const CASES: &[Case] = &[
         attaches: true,
         told: (Some(LENGTH), Some(0), true, true, true),
         asked: (1, 1, 1, 7, 1),
+        reasons: (None, None),
     },
     Case {
         failing: Some(Call::Open),
         attaches: false,
         told: NO_FILE,
         asked: (0, 0, 0, 0, 0),
+        reasons: (Some(Reason::Other), Some(Reason::Other)),
     },
     Case {
         failing: Some(Call::Clone),
         attaches: false,
         told: NO_FILE,
         asked: (0, 0, 0, 0, 1),
+        reasons: (Some(Reason::Other), Some(Reason::Other)),
     },
     Case {
         failing: Some(Call::Share),
         attaches: false,
         told: NO_FILE,
         asked: (1, 0, 0, 0, 1),
+        reasons: (Some(Reason::Held), Some(Reason::Other)),
     },
     Case {
         failing: Some(Call::Alone),
         attaches: true,
         told: (Some(LENGTH), Some(0), false, false, false),
         asked: (1, 0, 0, 0, 1),
+        reasons: (None, Some(Reason::Held)),
     },
     Case {
         failing: Some(Call::Lock),
         attaches: true,
         told: (Some(LENGTH), Some(0), true, true, true),
         asked: (1, 1, 1, 7, 1),
+        reasons: (None, None),
     },
     Case {
         failing: Some(Call::LockMemory),
         attaches: false,
         told: NO_FILE,
         asked: (1, 0, 0, 0, 1),
+        reasons: (None, Some(Reason::Other)),
     },
     Case {
         failing: Some(Call::Folder),
         attaches: false,
         told: NO_FILE,
         asked: (0, 0, 0, 0, 0),
+        reasons: (Some(Reason::Denied), Some(Reason::Other)),
     },
     Case {
         failing: Some(Call::SyncFolder),
         attaches: false,
         told: NO_FILE,
         asked: (0, 0, 0, 0, 0),
+        reasons: (Some(Reason::Denied), Some(Reason::Other)),
     },
     Case {
         failing: Some(Call::FolderSyncs),
         attaches: true,
         told: (Some(LENGTH), Some(0), true, true, true),
         asked: (1, 1, 1, 7, 0),
+        reasons: (None, None),
     },
     Case {
         failing: Some(Call::Metadata),
         attaches: true,
         told: (None, Some(0), true, true, true),
         asked: (1, 1, 1, 7, 1),
+        reasons: (None, Some(Reason::Other)),
     },
     Case {
         failing: Some(Call::SetLen),
         attaches: true,
         told: (Some(LENGTH), Some(0), true, false, true),
         asked: (1, 1, 1, 0, 1),
+        reasons: (None, Some(Reason::Other)),
     },
     Case {
         failing: Some(Call::SyncData),
         attaches: true,
         told: (Some(LENGTH), Some(0), true, true, false),
         asked: (1, 1, 0, 7, 1),
+        reasons: (None, Some(Reason::Other)),
     },
     Case {
         failing: Some(Call::Seek),
         attaches: true,
         told: (Some(LENGTH), None, false, true, true),
         asked: (1, 0, 1, 7, 1),
+        reasons: (None, Some(Reason::Other)),
     },
     Case {
         failing: Some(Call::Read),
         attaches: true,
         told: (Some(LENGTH), None, true, true, true),
         asked: (1, 1, 1, 7, 1),
+        reasons: (None, Some(Reason::Other)),
     },
     Case {
         failing: Some(Call::Write),
         attaches: true,
         told: (Some(LENGTH), Some(0), false, true, true),
         asked: (1, 0, 1, 7, 1),
+        reasons: (None, Some(Reason::Other)),
     },
 ];
 
@@ -359,9 +377,11 @@ fn expect_case(rt: &impl Abort, alloc: Global, case: &Case) {
     let notes = Notes::new(case.failing);
     let mut disk = FileDisk::new(NotedFiles { notes: &notes });
     let attached = attaches(&mut disk, alloc);
+    let reason = disk.reason();
     let answers = told(&mut disk);
     assert_same!(rt; (case.failing, attached, answers), (case.failing, case.attaches, case.told));
     assert_same!(rt; (case.failing, notes.asked()), (case.failing, case.asked));
+    assert_same!(rt; (case.failing, (reason, disk.reason())), (case.failing, case.reasons));
 }
 
 #[test]

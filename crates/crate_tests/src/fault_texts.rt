@@ -1,10 +1,12 @@
-//! What faults of fences and of a follower are told as.
+//! What faults of fences, of a follower and of a drive are told as.
 use cell_format::Cell;
+use disk_file::Reason;
 use fence_watch::{AlongFault, BadFences, WatchFault};
 use follower::FollowFault;
 use recovery::{OpenFault, Walked};
 use std::alloc::Global;
 use std::fmt::Display;
+use std::io::ErrorKind;
 use std::process::Abort;
 
 const BAD: &[(BadFences, &str)] = &[
@@ -42,6 +44,22 @@ const FOLLOWED: &[(FollowFault, &str)] = &[
     ),
     (FollowFault::Disk, "the drive failed"),
     (FollowFault::Memory, "out of memory"),
+];
+
+const FAILED: &[(ErrorKind, &str)] = &[
+    (ErrorKind::WouldBlock, "another open holds the file"),
+    (ErrorKind::NotFound, "there is no such file or folder"),
+    (
+        ErrorKind::PermissionDenied,
+        "the file may not be opened or changed",
+    ),
+    (
+        ErrorKind::ReadOnlyFilesystem,
+        "the file may not be opened or changed",
+    ),
+    (ErrorKind::StorageFull, "the disk has no space left"),
+    (ErrorKind::QuotaExceeded, "the disk has no space left"),
+    (ErrorKind::BrokenPipe, "the system failed"),
 ];
 
 pub(crate) fn expect_text(rt: &impl Abort, alloc: Global, fault: &impl Display, text: &str) {
@@ -95,5 +113,12 @@ fn a_fault_along_a_log_tells_its_cause(rt: HostRuntime) {
 fn a_refused_follower_tells_its_cause(rt: HostRuntime) {
     for (fault, text) in FOLLOWED {
         expect_text(&rt, rt.alloc(), fault, text);
+    }
+}
+
+#[test]
+fn a_failed_call_of_a_drive_tells_its_reason(rt: HostRuntime) {
+    for (kind, text) in FAILED {
+        expect_text(&rt, rt.alloc(), &Reason::of(*kind), text);
     }
 }

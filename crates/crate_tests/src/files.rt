@@ -2,7 +2,7 @@
 use crate::checks::same_bytes;
 use crate::folder::{expect_taken_away, path_of};
 use crate::logs::files::is_read_back;
-use disk_file::FileDisk;
+use disk_file::{FileDisk, LockFile, Reason};
 use disk_trait::{AttachFault, DiskFault, LogDisk};
 use std::alloc::Global;
 use std::env::Env;
@@ -101,6 +101,19 @@ fn path<R: Abort + Env + AllocGlobal>(rt: &R, case: &str, id: u32) -> PathBuf {
     path_of(rt, name.as_str())
 }
 
+// Why a file isn't opened that isn't there, and why another drive doesn't open it that has written to it.
+fn reasons<R: Abort + Files + Clone + Drop + AllocGlobal>(rt: &R, name: &str) -> [Option<Reason>; 2]
+where
+    R::File: LockFile,
+{
+    let (mut writer, mut reader) = (drive(rt), drive(rt));
+    assert_is!(rt; attach(&mut writer, rt.alloc(), name, false).is_err());
+    assert_is!(rt; attach(&mut writer, rt.alloc(), name, true).is_ok());
+    writer.write(0, b"ab").expect(rt, "no write");
+    assert_is!(rt; attach(&mut reader, rt.alloc(), name, false).is_err());
+    [writer.reason(), reader.reason()]
+}
+
 #[test]
 fn a_file_is_made_where_it_may_be_and_keeps_what_is_written_a_log_too(rt: HostRuntime) {
     let path = path(&rt, "kept", process::id(rt.process()));
@@ -112,5 +125,13 @@ fn an_open_that_reads_a_file_is_in_the_way_of_a_writer_and_a_writer_of_all(rt: H
     let path = path(&rt, "locked", process::id(rt.process()));
     let drives = [drive(&rt), drive(&rt), drive(&rt)];
     has_one_writer(&rt, drives, path.as_str());
+    expect_taken_away(&rt, path.as_str(), b"ab");
+}
+
+#[test]
+fn a_drive_says_why_its_last_failed_call_failed(rt: HostRuntime) {
+    let path = path(&rt, "reasons", process::id(rt.process()));
+    let wanted = [Some(Reason::Missing), Some(Reason::Held)];
+    assert_same!(rt; reasons(&rt, path.as_str()), wanted);
     expect_taken_away(&rt, path.as_str(), b"ab");
 }

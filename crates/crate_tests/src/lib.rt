@@ -45,6 +45,8 @@ mod folder;
 #[cfg(test)]
 mod forgetful;
 #[cfg(test)]
+mod full_tally;
+#[cfg(test)]
 mod index;
 #[cfg(test)]
 mod keys;
@@ -66,6 +68,8 @@ mod memory;
 mod moves;
 #[cfg(test)]
 mod regions;
+#[cfg(test)]
+mod short_reads;
 #[cfg(test)]
 mod splits;
 #[cfg(test)]

@@ -1,12 +1,17 @@
 //! The drive over a file of the machine.
-ghost use Rattle.std.specs.Prelude.{◌≡◌, ◌+◌, ◌^◌, ◌≤◌, false, length};
+ghost use Rattle.std.specs.Prelude.{◌≡◌, ◌+◌, ◌^◌, ◌≤◌, false, length, Ok, Some, None, IsErr, MatchResult};
+ghost use Rattle.std.specs.IoError.{error_kind};
+ghost use Rattle.causes.specs.Causes.{Rose, one_more};
+ghost use Rattle.disk_file.specs.Reasons.{reason_of};
 
 use crate::held::HeldFile;
 use crate::locks::LockFile;
-use crate::opening::opened;
+use crate::opening::{cause, opened};
+use crate::reason::Reason;
 use disk_trait::{AttachFault, DiskFault, LogDisk};
 use std::alloc::Global;
 use std::fs::Files;
+use std::io::{self, ErrorKind};
 use std::marker::Model;
 
 /// A drive whose file `R` opens. It has no file until an attach returns `Ok`. If a later attach fails, it keeps the
@@ -16,6 +21,7 @@ pub struct FileDisk<R: Files + Drop> {
     rt: R,
     file: Option<HeldFile<R::File>>,
     faults: u64,
+    reason: Option<Reason>,
 }
 
 impl<R: Files + Drop> Model for FileDisk<R> {
@@ -24,7 +30,7 @@ impl<R: Files + Drop> Model for FileDisk<R> {
 
     ghost Value = { FileView };
 
-    ghost view = { λ d. record { attached = is_some d.file; faults = d.faults } };
+    ghost view = { λ d. record { attached = is_some d.file; faults = d.faults; reason = d.reason } };
 }
 
 impl<R: Files + Drop> FileDisk<R> {
@@ -33,25 +39,47 @@ impl<R: Files + Drop> FileDisk<R> {
 
     /// A drive without a file.
     pub fn new(rt: R) -> FileDisk<R>
-        ensures { result ≡ record { attached = false; faults = 0 } }
+        ensures { result ≡ record { attached = false; faults = 0; reason = None } }
     {
         FileDisk {
             rt,
             file: None,
             faults: 0,
+            reason: None,
         }
     }
 
-    /// Raises the fault count if a step failed. The count stops at `2^64 - 1`.
-    fn counted<T>(&mut self, step: Result<T, DiskFault>) -> Result<T, DiskFault>
-        ensures same { result ≡ step }
-        ensures after { Counted self.old self.new step }
-        ensures cause { CountsFaults (file_drive self.old) (file_drive self.new) step }
+    /// Why the last call failed that did, or `None` if none did. A drive that comes back with an error has the reason of
+    /// that error. An attach for which memory ran out leaves the reason as it was.
+    pub fn reason(&self) -> Option<Reason>
+        ensures { result ≡ self.now.reason }
     {
-        if step.is_err() {
-            self.faults = self.faults.saturating_add(1);
+        self.reason
+    }
+
+    // Raises the fault count, which stops at `2^64 - 1`, and keeps the reason.
+    fn failed(&mut self, error: &io::Error)
+        ensures rose { Rose self.old.faults self.new.faults }
+        ensures later { self.old.faults ≤ self.new.faults }
+        ensures after { self.new ≡ record { attached = self.old.attached; faults = one_more self.old.faults; reason = Some (reason_of (error_kind error.now)) } }
+    {
+        self.faults = self.faults.saturating_add(1);
+        self.reason = Some(Reason::of(error.kind()));
+    }
+
+    /// Counts a step that failed.
+    fn counted<T>(&mut self, step: io::Result<T>) -> Result<T, DiskFault>
+        ensures same { MatchResult step (λ x. result ≡ Ok x) (λ _. IsErr result) }
+        ensures after { Counted self.old self.new result }
+        ensures cause { CountsFaults (file_drive self.old) (file_drive self.new) result }
+    {
+        match step {
+            Ok(value) => Ok(value),
+            Err(error) => {
+                self.failed(&error);
+                Err(DiskFault)
+            }
         }
-        step
     }
 }
 
@@ -77,9 +105,10 @@ where
                 self.file = Some(file);
                 Ok(())
             }
-            Err(cause) => {
+            Err(error) => {
+                let cause = cause(&error);
                 if cause == AttachFault::Disk {
-                    self.faults = self.faults.saturating_add(1);
+                    self.failed(&error);
                 }
                 Err(cause)
             }
@@ -94,7 +123,7 @@ where
     {
         let len = match &self.file {
             Some(file) => file.len(),
-            None => Err(DiskFault),
+            None => Err(no_file()),
         };
         self.counted(len)
     }
@@ -107,7 +136,7 @@ where
     {
         let count = match &mut self.file {
             Some(file) => file.read(at, into),
-            None => Err(DiskFault),
+            None => Err(no_file()),
         };
         self.counted(count)
     }
@@ -122,7 +151,7 @@ where
     {
         let written = match &mut self.file {
             Some(file) => file.write(at, piece),
-            None => Err(DiskFault),
+            None => Err(no_file()),
         };
         self.counted(written)
     }
@@ -136,7 +165,7 @@ where
     {
         let cut = match &mut self.file {
             Some(file) => file.cut(len),
-            None => Err(DiskFault),
+            None => Err(no_file()),
         };
         self.counted(cut)
     }
@@ -149,8 +178,13 @@ where
     {
         let done = match &mut self.file {
             Some(file) => file.sync(),
-            None => Err(DiskFault),
+            None => Err(no_file()),
         };
         self.counted(done)
     }
+}
+
+// The error of a call without a file.
+fn no_file() -> io::Error {
+    io::Error::from(ErrorKind::Other)
 }

@@ -7,7 +7,6 @@ ghost use Rattle.disk_file.specs.Holds.{IsAloneOrKept};
 use crate::locks::{Hold, LockFile};
 use crate::moves::{read_from, write_to};
 use crate::system::or_unsupported;
-use disk_trait::DiskFault;
 use std::fs::OpenFile;
 use std::io::{self, Read, Seek, Write};
 
@@ -24,15 +23,6 @@ fn lock_for<F: LockFile>(file: &F, hold: Hold) -> io::Result<()> {
     or_unsupported(file.try_hold(hold))
 }
 
-fn told<T>(answer: io::Result<T>) -> Result<T, DiskFault>
-    ensures { MatchResult answer (λ value. result ≡ Ok value) (λ _. IsErr result) }
-{
-    match answer {
-        Ok(value) => Ok(value),
-        Err(_) => Err(DiskFault),
-    }
-}
-
 impl<F: LockFile + Drop> HeldFile<F> {
     /// Locks a file for reading. Other opens may lock it for reading too.
     pub fn shared(file: F) -> io::Result<HeldFile<F>>
@@ -46,11 +36,11 @@ impl<F: LockFile + Drop> HeldFile<F> {
     }
 
     // Locks the file for this open alone, unless it has that lock already.
-    fn hold_alone(&mut self) -> Result<(), DiskFault>
+    fn hold_alone(&mut self) -> io::Result<()>
         ensures held { MatchResult result (λ _. self.new ≡ record { file = self.old.file; is_alone = true }) (λ _. self.new ≡ self.old) }
     {
         if !self.is_alone {
-            told(lock_for(&self.file, Hold::Alone))?;
+            lock_for(&self.file, Hold::Alone)?;
             self.is_alone = true;
         }
         Ok(())
@@ -59,12 +49,13 @@ impl<F: LockFile + Drop> HeldFile<F> {
 
 impl<F: LockFile + Read + Write + Seek + OpenFile + Drop> HeldFile<F> {
     /// The length of the file in bytes.
-    pub fn len(&self) -> Result<u64, DiskFault> {
-        told(self.file.metadata()).map(|found| found.len())
+    pub fn len(&self) -> io::Result<u64> {
+        let found = self.file.metadata()?;
+        Ok(found.len())
     }
 
     /// Reads the bytes from a place on, as many as `into` has room for.
-    pub fn read(&mut self, at: u64, into: &mut [u8]) -> Result<usize, DiskFault>
+    pub fn read(&mut self, at: u64, into: &mut [u8]) -> io::Result<usize>
         ensures lock { self.new.is_alone ≡ self.old.is_alone }
         ensures bound { IfOk result (λ n. n ≤ length into.new) }
         ensures end { IfOk result (λ n. n < length into.new → IsAtEnd (F.remaining self.new.file)) }
@@ -74,7 +65,7 @@ impl<F: LockFile + Read + Write + Seek + OpenFile + Drop> HeldFile<F> {
     }
 
     /// Writes a piece at a place.
-    pub fn write(&mut self, at: u64, piece: &[u8]) -> Result<(), DiskFault>
+    pub fn write(&mut self, at: u64, piece: &[u8]) -> io::Result<()>
         ensures lock { IsAloneOrKept self.old self.new result }
         ensures puts { OnOk result (PutsAt F.stream_position F.contents self.old.file self.new.file at piece.now) }
     {
@@ -83,18 +74,18 @@ impl<F: LockFile + Read + Write + Seek + OpenFile + Drop> HeldFile<F> {
     }
 
     /// Cuts the file to a length, or extends it.
-    pub fn cut(&mut self, len: u64) -> Result<(), DiskFault>
+    pub fn cut(&mut self, len: u64) -> io::Result<()>
         ensures lock { IsAloneOrKept self.old self.new result }
     {
         self.hold_alone()?;
-        told(self.file.set_len(len))
+        self.file.set_len(len)
     }
 
     /// Waits until the bytes and the length are on the disk. It doesn't wait for the times of the file.
-    pub fn sync(&mut self) -> Result<(), DiskFault>
+    pub fn sync(&mut self) -> io::Result<()>
         ensures lock { IsAloneOrKept self.old self.new result }
     {
         self.hold_alone()?;
-        told(self.file.sync_data())
+        self.file.sync_data()
     }
 }

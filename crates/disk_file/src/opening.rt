@@ -50,7 +50,8 @@ fn open_apart<R: Files>(rt: &R, name: &str, make: bool) -> io::Result<R::File> {
     first.try_clone()
 }
 
-fn cause(error: &io::Error) -> AttachFault
+/// What an attach reports for an error of the system.
+pub fn cause(error: &io::Error) -> AttachFault
     ensures { result ≡ AttachFault.Memory ↔ error_kind error.now ≡ ErrorKind.OutOfMemory }
 {
     match error.kind() {
@@ -61,12 +62,9 @@ fn cause(error: &io::Error) -> AttachFault
 
 /// Opens the file of a name and locks it for reading. If `make` is true and there is no file, the call creates one, and
 /// it syncs the folder.
-pub fn opened<R: Files>(rt: &R, name: &str, make: bool) -> Result<HeldFile<R::File>, AttachFault>
+pub fn opened<R: Files>(rt: &R, name: &str, make: bool) -> io::Result<HeldFile<R::File>>
 where
     R::File: LockFile,
 {
-    match open_apart(rt, name, make).and_then(HeldFile::shared) {
-        Ok(file) => Ok(file),
-        Err(error) => Err(cause(&error)),
-    }
+    open_apart(rt, name, make).and_then(HeldFile::shared)
 }
