@@ -1,4 +1,4 @@
-//! What faults of fences and of a follower are told as.
+//! The texts of the faults of fences and of a follower.
 use cell_format::Cell;
 use fence_watch::{AlongFault, BadFences, WatchFault};
 use follower::FollowFault;
