@@ -1,4 +1,4 @@
-//! Stores that go on over a second file, also where a drive fails or a crash comes.
+//! Stores that continue over a second file, also when a drive fails or a crash comes.
 use crate::files::{
     FIRST_TWO, FIRST_TWO_AND_FOURTH, Leaves, close, expect_either, expect_in, filled, found_in,
     go_on, open_one, rotate, rotated,
@@ -16,8 +16,8 @@ use std::process::Abort;
 use std::sync::Wait;
 use store_file::{NotRotated, OpenedEither, RotateCause, Rotated, Which};
 
-// Fills a store, and rotates it; where it goes on, that is with one put: how many entries each of the two had, and both drives, the one of
-// the store first.
+// Fills a store, and rotates it. If it continues, it makes one put. Returns how many entries each of the two had, and
+// both drives, that of the store first.
 fn fill_and_rotate<I: Index, D: LogDisk, R: Wait + Abort>(
     rt: &R,
     alloc: Global,
@@ -42,7 +42,8 @@ fn fill_and_rotate<I: Index, D: LogDisk, R: Wait + Abort>(
     ([entries.as_slice().len(), more], disk, spare)
 }
 
-// Opens either file, and rotates the store into the other one: which one it was, and both drives, the one of the store first.
+// Opens either file, and rotates the store into the other one. Returns which one it was, and both drives, that of the
+// store first.
 fn open_and_rotate<I: Index, D: LogDisk, R: Wait + Abort>(
     rt: &R,
     alloc: Global,
@@ -95,8 +96,9 @@ fn goes_on_behind_a_rotation<R: Wait + Abort>(rt: &R, alloc: Global, leaves: Lea
     expect_either(rt, alloc, GONE_ON, EMPTY, found);
 }
 
-// The calls of a rotation on the second drive, each with the file that is gone on over where it failed, and how many records that has. What
-// was written there counts once its first commit byte is set, and only the sync behind that one is left then.
+// The calls of a rotation on the second drive. Each has the file over which the store continues if that call fails, and
+// how many records the file has. What was written there counts once its first commit byte is set. Only the next sync is
+// left then.
 const ON_SPARE: &[(DiskCall, u64, Which, u64)] = &[
     (DiskCall::Len, 1, Which::First, 4),
     (DiskCall::Write, 1, Which::First, 4),
@@ -107,7 +109,7 @@ const ON_SPARE: &[(DiskCall, u64, Which, u64)] = &[
     (DiskCall::Sync, 3, Which::Second, 2),
 ];
 
-// Both drives of a rotation whose second drive fails, the one of the book first.
+// Both drives of a rotation whose second drive fails, that of the book first.
 fn unsure<I: Index, D: LogDisk, R: Wait + Abort>(
     rt: &R,
     alloc: Global,
@@ -137,7 +139,7 @@ fn kept<I: Index, D: LogDisk, R: Wait + Abort>(
     }
 }
 
-// What a crash may leave on a drive: with few bytes, or many, and this one in each free place.
+// What a crash may leave on a drive: few bytes, or many, with this value in each free byte.
 const CRASHES: &[(u64, u8)] = &[(0, 0), (0, 1), (1_024, 0), (1_024, 1), (1_024, 9)];
 
 // A drive as a crash at a moment may leave it.
@@ -147,7 +149,7 @@ fn image(rt: &impl Abort, alloc: Global, at: (&MemDisk, u64), len: u64, fill: u8
     disk_of(rt, alloc, image.as_slice(), &[])
 }
 
-// Fails unless the objects are found in these files, in the one or the other, and the store is rotated into that other one then.
+// Fails unless the objects are found in one of these files, and the store is rotated into the other one then.
 fn expect_after_crash<R: Wait + Abort>(rt: &R, alloc: Global, first: MemDisk, second: MemDisk) {
     let (_, found, disk, spare) = found_in::<FlatIndex, MemDisk, R>(rt, alloc, first, second);
     let (points, latest, _, places) = found;
@@ -159,7 +161,7 @@ fn expect_after_crash<R: Wait + Abort>(rt: &R, alloc: Global, first: MemDisk, se
     expect_bytes(rt, alloc, &spare, EMPTY);
 }
 
-// The same of each crash at a moment of one drive and one of the other.
+// The same for each crash at a moment of one drive and one of the other.
 fn expect_after_crashes<R: Wait + Abort>(
     rt: &R,
     alloc: Global,
@@ -173,7 +175,8 @@ fn expect_after_crashes<R: Wait + Abort>(
     }
 }
 
-// How many moments the first drive has before its log is cleared, and behind that; and how many the second one has in all.
+// How many moments the first drive has before its log is cleared, and after that; and how many the second one has in
+// all.
 const BEFORE: u64 = 19;
 
 const BEHIND: u64 = 23;
@@ -222,8 +225,8 @@ fn leaves_a_file_in_use<R: Wait + Abort>(rt: &R, alloc: Global, leaves: Leaves) 
     assert_same!(rt; two.moments(), 0);
 }
 
-// The calls of a rotation on the first drive, by which its log is cleared. Before them come nine writes and ten syncs: the log was made by
-// a write and a sync, opened with a sync, and each of four records was appended by two of each.
+// The calls of a rotation on the first drive, which clear its log. Nine writes and ten syncs come before them: a write
+// and a sync created the log, a sync opened it, and two of each appended each of four records.
 const ON_FIRST: &[(DiskCall, u64)] = &[
     (DiskCall::Write, 10),
     (DiskCall::Sync, 11),
@@ -231,7 +234,7 @@ const ON_FIRST: &[(DiskCall, u64)] = &[
     (DiskCall::Sync, 12),
 ];
 
-// Both drives of a rotation whose first drive fails, the one of the book last, and how many entries came back.
+// Both drives of a rotation whose first drive fails, that of the book last, and how many entries came back.
 fn uncleared<I: Index, D: LogDisk, R: Wait + Abort>(
     rt: &R,
     alloc: Global,
@@ -315,8 +318,8 @@ fn a_crash_in_a_rotation_leaves_the_objects(rt: HostRuntime) {
     keeps_its_objects(&rt, rt.alloc(), Leaves::Anew);
 }
 
-// What a crash may leave of two files: both logs; the old one beside a second file that isn't made, is short, or has records that don't
-// count yet; and the new one beside an old one of which the first commit byte is clear.
+// What a crash may leave of two files. Both logs. The old log, and a second file that isn't created, is short, or has
+// records that don't count yet. Or the new log, and an old one whose first commit byte is clear.
 #[test]
 fn the_same_objects_are_found_wherever_a_rotation_ends(rt: HostRuntime) {
     let old = (2, Some(20), 4, FIRST_TWO);
