@@ -3,7 +3,7 @@ use plain_list::{Answer, PlacedList, Stamped};
 use std::alloc::{AllocError, Global};
 use zorder::Placed;
 
-/// An answer, with the points of its list at hand.
+/// An answer, with the points of its list.
 #[derive(Clone, Copy)]
 pub enum Told {
     Done,

@@ -1,9 +1,9 @@
 //! The book over the trie, without a log and over one in memory.
 //!
-//! A test is a list of steps, with what the book tells of each and how it stands behind it. The steps are taken in functions over any index and
-//! any drive, by `calls`, which say nothing of a book.
+//! A test is a list of steps, with the book's answer to each and its state after it. Functions over any index and any
+//! drive take the steps, by `calls`, whose contracts say nothing about a book.
 
-// A position by its coordinates and its moment, which is 0 where none is given.
+// A position by its coordinates and its moment. The moment is 0 if none is given.
 macro_rules! at {
     ($x:expr, $y:expr) => {
         at!($x, $y, 0)

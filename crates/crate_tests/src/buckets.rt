@@ -23,7 +23,7 @@ const THREE: [Row; 3] = [
     Row { key: 27, id: 7 },
 ];
 
-// What is there before all else.
+// The rows before all changes.
 fn two_rows(rt: &impl Abort, alloc: Global) -> Bucket {
     Bucket::from_rows(alloc, &[row(1, 9), row(27, 7)]).expect(rt, "it failed")
 }
@@ -34,12 +34,12 @@ fn three_rows(rt: &impl Abort, alloc: Global) -> Bucket {
         .expect(rt, "it failed")
 }
 
-// Fails unless a bucket has so many rows and so long a delta, and this row or not.
+// Fails unless a bucket has so many rows and a delta of this length, and has this row or not.
 fn expect_told(rt: &impl Abort, bucket: &Bucket, row: Row, wanted: (u64, u64, bool)) {
     assert_same!(rt; (bucket.count(), bucket.delta_len(), bucket.holds(&row)), wanted);
 }
 
-// How long the delta is behind a put or a removal.
+// The length of the delta after a put or a removal.
 fn delta_behind(bucket: Result<Bucket, BucketFault>) -> Result<u64, BucketFault> {
     match bucket {
         Ok(bucket) => Ok(bucket.delta_len()),
@@ -106,7 +106,7 @@ fn a_removal_keeps_the_base_and_the_other_rows(rt: HostRuntime) {
     takes_a_removal(&rt, &three_rows(&rt, rt.alloc()));
 }
 
-// What is cut out of the base of two rows from 2 to 27.
+// What is cut out of the base of two rows, from 2 to 27.
 fn cut(rt: &impl Abort, two: &Bucket) -> Arc<Bucket>
     ensures { arc_value result ≡ as_base (rows_between 2 27 two.now.base) }
 {
@@ -114,7 +114,7 @@ fn cut(rt: &impl Abort, two: &Bucket) -> Arc<Bucket>
     cut.into_shared().expect(rt, "it failed")
 }
 
-// The same, with what came since.
+// The same, with the changes since.
 fn late(rt: &impl Abort, two: &Bucket, row: Row) -> (Arc<Bucket>, Arc<Bucket>) {
     let cut = cut(rt, two);
     let three = two.with_put(row).expect(rt, "it failed");
@@ -133,7 +133,7 @@ fn a_cut_bucket_catches_up_with_the_rows_in_its_range(rt: HostRuntime) {
     expect_late(&rt, &two_rows(&rt, rt.alloc()), row(2, 4), &THREE[1..]);
 }
 
-// How many pointers there are to what was cut, the one that it came by among them.
+// How many pointers there are to what was cut, including the one from which it was returned.
 fn owners_behind(rt: &impl Abort, two: &Bucket, row: Row) -> usize {
     let (cut, _late) = late(rt, two, row);
     Arc::strong_count(&cut)

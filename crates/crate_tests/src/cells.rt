@@ -1,4 +1,4 @@
-//! The format's worked spellings, and what spells nothing.
+//! The format's worked spellings, and bytes that spell nothing.
 ghost use Rattle.std.specs.Prelude.{◌≤◌, length};
 
 use crate::checks::same_bytes;
@@ -6,7 +6,7 @@ use cell_format::{Cell, CellFault, decode, encode, header};
 use std::process::Abort;
 use zorder::{Name, Point};
 
-/// These bytes, and zeros behind them.
+/// These bytes, followed by zeros.
 fn padded(front: &[u8]) -> [u8; 32]
     requires { length front.now ≤ 32 }
 {
@@ -21,7 +21,7 @@ fn a_header_is_the_word_the_version_and_the_width(rt: HostRuntime) {
     same_bytes(&rt, &header(1, 2), b"MDLOCLOG\x01\x02\0\0\0\0\0\0");
 }
 
-// What these bytes and zeros behind them spell in a log of this version.
+// What these bytes, followed by zeros, spell in a log of this version.
 fn decoded(rt: &impl Abort, version: u8, front: &[u8]) -> Result<Cell, CellFault> {
     assert!(rt; front.len() <= 32);
     let bytes = padded(front);
@@ -34,7 +34,7 @@ fn expect_decoded(rt: &impl Abort, version: u8, front: &[u8], wanted: Result<Cel
     assert_same!(rt; decoded(rt, version, front), wanted);
 }
 
-// Fails unless a cell has this spelling, in version 2 and, where `is_old`, in version 1 too.
+// Fails unless a cell has this spelling, in version 2 and, if `is_old`, in version 1 too.
 fn expect_spelling(rt: &impl Abort, cell: &Cell, front: &[u8], is_old: bool) {
     assert!(rt; front.len() <= 32);
     same_bytes(rt, &encode(cell), &padded(front));
@@ -69,7 +69,7 @@ macro_rules! move_7 {
     };
 }
 
-// Those that both versions have.
+// The cells that both versions have.
 const SPELLINGS: [(Cell, &[u8]); 5] = [
     (
         put!(0),
@@ -84,7 +84,7 @@ const SPELLINGS: [(Cell, &[u8]); 5] = [
     (Cell::Abandon { number: 1 }, &[1, 6, 0, 0, 0, 0, 0, 0, 0, 1]),
 ];
 
-// Those of version 2 alone: each byte of a moment by itself.
+// The cells of version 2 alone: each byte of a moment by itself.
 const MOMENTS: [(Cell, &[u8]); 5] = [
     (
         put!(0x0102_0304_0506_0708),
@@ -147,7 +147,7 @@ fn each_cell_has_its_worked_spelling(rt: HostRuntime) {
     }
 }
 
-// The faults of both versions. Byte 26 is the first behind a moment.
+// The faults of both versions. Byte 26 is the first one after a moment.
 const FAULTS: &[(&[u8], CellFault)] = &[
     (&[1, 0], CellFault::Kind),
     (&[1, 7], CellFault::Kind),

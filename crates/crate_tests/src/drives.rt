@@ -4,14 +4,14 @@ use disk_trait::{AttachFault, DiskFault, LogDisk};
 use std::alloc::Global;
 use std::process::Abort;
 
-// A drive with the bytes 5 and 6, room for 8 bytes and for 8 calls, where these fail.
+// A drive with the bytes 5 and 6, room for 8 bytes and for 8 calls. These calls fail.
 fn two_bytes(rt: &impl Abort, alloc: Global, failing: &[Failing]) -> MemDisk {
     let bytes = Vec::from_slice(alloc, &[5, 6]).expect(rt, "no memory");
     let failing = Vec::from_slice(alloc, failing).expect(rt, "no memory");
     MemDisk::new(alloc, bytes, 8, 8, failing).expect(rt, "no drive")
 }
 
-// An image of a moment by a length and what fills it.
+// An image of a moment by a length and the value of its free bytes.
 type Image = (u64, u64, u8, &'static [u8]);
 
 fn expect_image(rt: &impl Abort, disk: &MemDisk, moment: u64, len: u64, fill: u8, want: &[u8]) {
@@ -25,7 +25,7 @@ fn expect_images(rt: &impl Abort, disk: &MemDisk, images: &[Image]) {
     }
 }
 
-// Four moments: of the bytes as they were, of two writes, and of a sync between them.
+// Four moments: the original bytes, two writes, and a sync between them.
 fn write_twice<D: LogDisk>(disk: &mut D) -> Result<(), DiskFault> {
     disk.write(0, &[7])?;
     disk.sync()?;
@@ -113,7 +113,7 @@ fn nothing(told: Result<(), DiskFault>) -> Result<u64, DiskFault> {
     }
 }
 
-// Makes a call, and gives the number that it tells, if it tells one.
+// Makes a call, and returns the number that it returns, if it returns one.
 fn make<D: LogDisk>(disk: &mut D, alloc: Global, call: Call) -> Result<u64, DiskFault> {
     match call {
         Call::Attach => attach(disk, alloc),
@@ -128,15 +128,15 @@ fn make<D: LogDisk>(disk: &mut D, alloc: Global, call: Call) -> Result<u64, Disk
 const CALLS: &[(Call, Option<u64>)] = &[
     (Call::Attach, Some(0)),
     (Call::Write(7), None),
-    // A failed write leaves what a read gives.
+    // A failed write leaves the bytes that a read returns.
     (Call::FirstByte, Some(5)),
     (Call::Write(8), Some(0)),
     (Call::Sync, Some(0)),
-    // Past the room.
+    // Beyond the room.
     (Call::WriteLong, None),
     (Call::Sync, None),
     (Call::Attach, None),
-    // Past the calls.
+    // Beyond the calls.
     (Call::Len, None),
 ];
 

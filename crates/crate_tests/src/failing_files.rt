@@ -1,4 +1,5 @@
-//! A drive over files of the test's own, one call of which fails: what the drive answers then, and what it asks of its file.
+//! A drive over files of the test's own, one call of which fails: the drive's results then, and the calls that it makes
+//! of its file.
 use disk_file::{FileDisk, Hold, LockFile, Reason};
 use disk_trait::LogDisk;
 use std::alloc::{Allocator, Global};
@@ -12,12 +13,13 @@ use std::process::Abort;
 enum Call {
     Open,
     Clone,
-    // Another open has a lock in the way, of readers beside it, or of one alone; or there are no locks; or there is no memory for one.
+    // Another open has a lock in the way: one for reading, or one alone. Or there are no locks, or there is no memory
+    // for one.
     Share,
     Alone,
     Lock,
     LockMemory,
-    // The folder can't be opened, or synced; or the system can't sync folders.
+    // The folder can't be opened or synced, or the system can't sync folders.
     Folder,
     SyncFolder,
     FolderSyncs,
@@ -29,10 +31,11 @@ enum Call {
     Write,
 }
 
-// What was asked of a file: clones, writes, syncs of its bytes, and the sum of the lengths to which it was cut; and syncs of its folder.
+// The calls of a file: clones, writes, syncs of its bytes, the sum of the lengths to which it was cut, and syncs of its
+// folder.
 type Asked = (u64, u64, u64, u64, u64);
 
-// The call that fails, and what was asked.
+// The call that fails, and the calls that were made.
 #[derive(Drop)]
 struct Notes {
     failing: Option<Call>,
@@ -72,7 +75,7 @@ impl Notes {
         }
     }
 
-    // The folder of the file, which is the one that the test runs in.
+    // The folder of the file is the one that the test runs in.
     fn answer_of_folder(&self, call: Call) -> io::Result<()> {
         if self.failing == Some(call) {
             return Err(io::Error::from(ErrorKind::PermissionDenied));
@@ -102,7 +105,7 @@ fn add(cell: &Cell<u64>, more: u64) {
 // More than 32 bits hold.
 const LENGTH: u64 = 4_294_967_301;
 
-// A file that has this length, gives no bytes and takes all.
+// A file that has this length, returns no bytes and accepts all.
 #[derive(Drop)]
 struct NotedFile<'a> {
     notes: &'a Notes,
@@ -233,7 +236,8 @@ fn attaches<D: LogDisk>(disk: &mut D, alloc: Global) -> bool {
     disk.attach(alloc, "log", true).is_ok()
 }
 
-// The length, the number of bytes that a read gives, and whether a write, a cut to seven bytes and a sync answer Ok.
+// The length, the number of bytes that a read returns, and whether a write, a cut to seven bytes and a sync return
+// `Ok`.
 type Told = (Option<u64>, Option<usize>, bool, bool, bool);
 
 fn told(disk: &mut FileDisk<NotedFiles<'_>>) -> Told {
@@ -257,7 +261,7 @@ struct Case {
 
 const NO_FILE: Told = (None, None, false, false, false);
 
-// Each call of a file, and what the drive then answers: no failure is swallowed, nor told of another call.
+// Each call of a file, and the drive's result then. No failure is hidden, or reported for another call.
 const CASES: &[Case] = &[
     Case {
         failing: None,

@@ -1,4 +1,4 @@
-//! What faults of fences, of a follower and of a drive are told as.
+//! The texts of the faults of fences, of a follower and of a drive.
 use cell_format::Cell;
 use disk_file::Reason;
 use fence_watch::{AlongFault, BadFences, WatchFault};

@@ -1,4 +1,4 @@
-//! Fences along a worked log: who crosses them and who is inside.
+//! Fences along a worked log: which objects cross them and which are inside.
 ghost use Rattle.std.specs.Prelude.{List};
 ghost use Rattle.cell_format.specs.declared.cell.Cell.{Cell};
 ghost use Rattle.recovery.specs.Walks.{ComesTo};
@@ -18,7 +18,7 @@ use zorder::{Name, Point};
 // No log here has as many cells.
 const MANY: u32 = 9;
 
-// Goes with a watch along the cells of a walk.
+// Leads a watch along the cells of a walk.
 fn go_along<D: LogDisk>(rt: &impl Abort, walk: &mut Walk<D>, watch: &mut Watch)
     requires { (cells : List Cell) × (fences : List Fence)
         × ComesTo 1 9 cells (D.drive walk.old.disk) walk.old × FollowsCells cells fences watch.old }
@@ -49,7 +49,7 @@ fn put(id: u64, x: u32, y: u32) -> Cell {
     Cell::Put { id, at, moment: 0 }
 }
 
-// The put of 9 is of a corner of both fences.
+// The put of 9 is at a corner of both fences.
 fn five_cells() -> [Cell; 5] {
     let begin = Cell::Begin {
         number: 1,
@@ -96,7 +96,7 @@ fn are_inside(watch: &Watch, fence: u64, ids: &[u64]) -> bool {
     }
 }
 
-// Fails unless the first of the cells make so many of these events, and leave these ids in fence 2 and these in fence 1.
+// Fails unless these cells lead to these events, and leave these ids in fence 2 and these in fence 1.
 fn expect_inside(
     rt: &impl Abort,
     alloc: Global,

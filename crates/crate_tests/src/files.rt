@@ -28,7 +28,7 @@ fn fill_and_cut<D: LogDisk>(rt: &impl Abort, disk: &mut D) {
     disk.cut(4).expect(rt, "no cut");
 }
 
-// Six bytes of the room of a read from the second byte on.
+// Reads from the second byte on, and returns six bytes of the buffer.
 fn read<D: LogDisk>(rt: &impl Abort, disk: &mut D) -> [u8; 6] {
     let mut into = [b'-'; 6];
     disk.read(1, &mut into).expect(rt, "no read");
@@ -63,7 +63,7 @@ fn makes_a_file<R: Abort + Files + AllocGlobal, D: LogDisk>(rt: &R, disk: &mut D
     expect_taken_away(rt, name, b"Abxy");
 }
 
-// Of a drive that may be sent to a thread.
+// The drive may be sent to a thread.
 fn keeps_what_is_written<R: Abort + Files + AllocGlobal, D: LogDisk + Send>(
     rt: &R,
     mut disk: D,
@@ -73,8 +73,8 @@ fn keeps_what_is_written<R: Abort + Files + AllocGlobal, D: LogDisk + Send>(
     is_read_back(rt, disk, name);
 }
 
-// Two drives read it. One that would change it is refused, and then holds nothing: so the other one changes it, and from then on no third one
-// reads it.
+// Two drives read the file. One that wants to change it is refused, and then has no lock. So the other one changes it,
+// and from then on no third drive can read it.
 fn has_one_writer<R: Abort + AllocGlobal, D: LogDisk>(rt: &R, drives: [D; 3], name: &str) {
     let [mut first, mut second, mut third] = drives;
     assert_is!(rt; attach(&mut first, rt.alloc(), name, true).is_ok());

@@ -13,7 +13,7 @@ pub fn path_of<R: Abort + Env + AllocGlobal>(rt: &R, name: &str) -> PathBuf {
     path
 }
 
-/// Takes a file away, and fails unless it held these bytes.
+/// Removes a file, and fails unless it held these bytes.
 pub fn expect_taken_away<R: Abort + Files + AllocGlobal>(rt: &R, name: &str, bytes: &[u8]) {
     let held = fs::read(rt, name).expect(rt, "the file isn't read");
     fs::remove_file(rt, name).expect(rt, "the file isn't taken away");

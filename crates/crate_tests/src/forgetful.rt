@@ -1,8 +1,8 @@
-//! A drive of whose content nothing is known can keep the trait's contract.
+//! A drive whose content is unknown can keep the trait's contract.
 use disk_trait::{AttachFault, DiskFault, LogDisk};
 use std::alloc::Global;
 
-/// Takes every write and forgets it, and fails at each attach.
+/// Accepts every write and forgets it, and fails at each attach.
 #[derive(Drop)]
 struct ForgetfulDisk {
     faults: u64,

@@ -1,6 +1,6 @@
 //! An index and queries over it, for every form of one.
 //!
-//! A function over the bound `Index` makes the calls, and each form is handed to it.
+//! A function over the bound `Index` makes the calls, and runs for each form.
 mod asks;
 mod below;
 mod buckets;

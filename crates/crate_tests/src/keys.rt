@@ -1,4 +1,4 @@
-//! Worked values, and the fast forms beside plain loops over the bits.
+//! Worked values, and the fast forms compared with plain loops over the bits.
 use std::process::Abort;
 use zorder::{Name, Point, begins, child, common, key, point};
 

@@ -1,4 +1,4 @@
-//! Buckets of sizes around that from which a change shifts a delta alone, with a version held meanwhile.
+//! Buckets of sizes around the one from which a change shifts a delta alone, while a version is held.
 use crate::checks::is_listed;
 use crate::index::never::Never;
 use bucket_versions::{AtOnce, Bucket, Commit, Row, RowChange, Undone, put, take};
@@ -6,12 +6,12 @@ use std::alloc::{AllocError, Global};
 use std::process::Abort;
 use std::sync::Arc;
 
-// How many objects there may be on one point; every other one stands there at first.
+// How many objects there may be at one point. At first every other one is there.
 const OBJECTS: &[usize] = &[80, 2_040, 2_050, 8_000];
 
 const CHANGES: u64 = 700;
 
-// The rows of the objects that stand there.
+// The rows of the objects that are there.
 fn rows_of(alloc: Global, there: &[bool]) -> Result<Vec<Row>, AllocError> {
     let mut rows = Vec::new(alloc);
     for (id, is_there) in there.iter().enumerate() {
@@ -25,7 +25,7 @@ fn rows_of(alloc: Global, there: &[bool]) -> Result<Vec<Row>, AllocError> {
     Ok(rows)
 }
 
-// Which stand there at first.
+// The objects that are there at first.
 fn every_other(alloc: Global, objects: usize) -> Result<Vec<bool>, AllocError> {
     let mut there = Vec::new(alloc);
     for id in 0..objects {
@@ -34,7 +34,7 @@ fn every_other(alloc: Global, objects: usize) -> Result<Vec<bool>, AllocError> {
     Ok(there)
 }
 
-// Takes an object away, or puts it there.
+// Removes an object, or puts it there.
 fn turn<C: Commit>(
     bucket: &mut Arc<Bucket>,
     change: RowChange,
@@ -51,12 +51,12 @@ fn turn<C: Commit>(
     }
 }
 
-// The same, behind a step that fails.
+// The same, in a step that fails.
 fn turn_in_vain(rt: &impl Abort, bucket: &mut Arc<Bucket>, change: RowChange) {
     assert_same!(rt; turn(bucket, change, &mut Never), Err(Undone::Lost));
 }
 
-// Turns an object in the bucket, and in what is told of it.
+// Turns an object in the bucket, and in the list of which are there.
 fn turn_both(rt: &impl Abort, bucket: &mut Arc<Bucket>, is_there: &mut bool, change: RowChange) {
     turn_in_vain(rt, bucket, change);
     turn(bucket, change, &mut AtOnce).expect(rt, "it failed");
@@ -69,7 +69,7 @@ fn drawn(seed: u64) -> u64 {
         .wrapping_add(1_442_695_040_888_963_407)
 }
 
-// Turns objects that are drawn, with a version held that is some changes old.
+// Turns drawn objects, with a version held that is some changes old.
 fn turn_many(
     rt: &impl Abort,
     bucket: &mut Arc<Bucket>,
@@ -116,7 +116,7 @@ fn shared(rt: &impl Abort, alloc: Global, there: &[bool]) -> Arc<Bucket> {
     bucket_of(alloc, &rows).expect(rt, "it failed")
 }
 
-// A bucket to which the rows came one by one.
+// A bucket to which the rows were added one by one.
 fn bucket_of(alloc: Global, rows: &[Row]) -> Result<Arc<Bucket>, Undone> {
     let mut bucket = Bucket::from_rows(alloc, &[])?.into_shared()?;
     for row in rows {

@@ -1,9 +1,9 @@
-//! The worked values of single crates, tried through their public calls.
+//! The worked values of single crates, tested through their public calls.
 //!
-//! They stand apart from these crates, so that each is proved once. Nothing else is here.
+//! They are in a crate of their own, so that each of those crates is proved once. Nothing else is here.
 #![tactic(auto)]
 
-// `assert!` and `assert_eq!` as calls: the proof of a function with several of them is much shorter so.
+// `assert!` and `assert_eq!` as calls. They make the proof of a function with several of them much shorter.
 #[cfg(test)]
 macro_rules! assert_is {
     ($rt:expr; $is_so:expr $(,)?) => {

@@ -61,7 +61,7 @@ fn expect_many(rt: &impl Abort, alloc: Global, text: &[u8], wanted: Result<usize
     assert_same!(rt; how_many(alloc, text), wanted);
 }
 
-// Fails unless the rows behind the header are refused for this.
+// Fails unless the rows after the header are refused for this fault.
 fn expect_refused(rt: &impl Abort, alloc: Global, rows: &[u8], fault: RowsFault) {
     let text = with_header(rt, alloc, rows);
     expect_many(rt, alloc, text.as_slice(), Err(fault));
@@ -440,7 +440,7 @@ fn expect_written(rt: &impl Abort, alloc: Global, rows: &Rows, text: &[u8]) {
     expect_text(rt, &sink, text);
 }
 
-// The made row and each operation, with moments of up to 19 digits; and moments of 20 digits.
+// The drawn row and each operation, with moments of up to 19 digits; and moments of 20 digits.
 const WRITTEN: &[&[u8]] = &[
     b"session,op,id,x,y,a,b,moment\n1,put,1717,3938983765,2969520912,,,60104\n1,put,7,3,5,,,0\n16,move,7,8,8,,,1000000000000000000\n16,move,7,8,8,,,9999999999999999999\n1,drop,7,,,,,\n1,where,7,,,,,\n1,box,,3,5,3,5,\n1,near,,0,0,2048,,\n",
     b"session,op,id,x,y,a,b,moment\n1,put,7,3,5,,,10000000000000000000\n1,move,7,8,8,,,18446744073709551615\n1,where,7,,,,,\n",

@@ -33,7 +33,7 @@ const FIND_7: Op = Op::Find { id: 7 };
 
 const DROP_7: Op = Op::Remove { id: 7 };
 
-// Where no moment is given, it is 0.
+// If no moment is given, it is 0.
 macro_rules! put {
     ($id:expr, $at:expr) => {
         put!($id, $at, 0)
@@ -80,7 +80,7 @@ macro_rules! within {
     };
 }
 
-// The call of a session's row, and what it is told.
+// The call of a session's row, and its answer.
 type Row = (u8, u32, Op, Told);
 
 fn call_of(rt: &impl Abort, alloc: Global, row: &Row) -> Call {
@@ -119,7 +119,7 @@ const WORKED: &[Row] = &[
     (1, 8, FIND_7, Told::Absent),
 ];
 
-// A late move, one of an equal moment, and a put of a greater one.
+// A late move, one with an equal moment, and a put with a greater one.
 const STALE: &[Row] = &[
     (1, 1, put!(7, FIRST, 10), Told::Done),
     (1, 2, move_7!(NEAR, 9), Told::Stale(kept!(FIRST, 10))),
@@ -129,7 +129,7 @@ const STALE: &[Row] = &[
     (1, 6, FIND_7, Told::At(kept!(NEAR, 10))),
 ];
 
-// Moves to the point where the object is, a put behind a drop, and the least and the greatest moment.
+// Moves to the point where the object is, a put after a removal, and the least and the greatest moment.
 const MOMENTS: &[Row] = &[
     (1, 1, put!(7, FIRST, 10), Told::Done),
     (1, 2, move_7!(FIRST, 12), Told::Moved(kept!(FIRST, 10))),
@@ -182,7 +182,7 @@ fn ties_go_to_the_lesser_id_and_boxes_have_both_corners(rt: HostRuntime) {
     assert_is!(rt; are_legal(&rt, rt.alloc(), TIES));
 }
 
-// What the call of session 2 isn't told behind a put of 7 at (3,5), of moment 10.
+// Answers that the call of session 2 doesn't have after a put of 7 at (3,5), with moment 10.
 const UNTOLD: &[(Op, Told)] = &[
     (FIND_7, Told::Absent),
     (FIND_7, Told::At(kept!(FIRST, 9))),
@@ -300,7 +300,7 @@ macro_rules! member {
     };
 }
 
-// Those ids, behind a move of 7 and a removal of 9.
+// Those ids, after a move of 7 and a removal of 9.
 const LEFT: &[Member] = &[
     member!(0, FIRST, 0),
     member!(7, NEAR, 3),
@@ -308,7 +308,7 @@ const LEFT: &[Member] = &[
     member!(LAST, FIRST, 0),
 ];
 
-// Objects of these ids at one point.
+// Objects with these ids at one point.
 fn world_at_first(rt: &impl Abort, alloc: Global, ids: &[u64]) -> World {
     let mut world = World::empty(alloc);
     for id in ids {

@@ -1,4 +1,4 @@
-//! What is printed of a log that wasn't made, opened or compacted.
+//! What is printed of a log that wasn't created, opened or compacted.
 use crate::fault_texts::expect_text;
 use cell_format::Cause;
 use log_compact::CompactFault;

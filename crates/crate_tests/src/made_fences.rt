@@ -1,4 +1,4 @@
-//! Fences from code, and a tally over a world that goes on with a program's own steps.
+//! Fences from code, and a tally over a world that continues with a program's own steps.
 use crate::worlds::world_of;
 use fence_watch::{BadFences, Crossing, Event, Fence, Fences, Tally};
 use std::alloc::Global;
@@ -88,7 +88,7 @@ const CROSSED: &[Event] = &[
     event!(42, Enter, 13, 1),
 ];
 
-// How many are inside fence 2, and inside fence 1.
+// How many objects are inside fence 2, and inside fence 1.
 fn expect_inside(rt: &impl Abort, tally: &Tally, second: u64, first: u64) {
     let counts = tally.counts();
     assert_same!(rt; counts.len(), 2);
@@ -96,7 +96,7 @@ fn expect_inside(rt: &impl Abort, tally: &Tally, second: u64, first: u64) {
     assert_same!(rt; counts.last().map(|c| c.inside), Some(first));
 }
 
-// Object 7 moves from fence 1 to fence 2, 12 is dropped, and 13 is put.
+// Object 7 moves from fence 1 to fence 2, 12 is removed, and 13 is put.
 fn go_on(rt: &impl Abort, tally: &mut Tally) {
     let far = Some(Point { x: 8, y: 8 });
     let near = Some(Point { x: 3, y: 5 });

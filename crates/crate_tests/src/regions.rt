@@ -37,7 +37,7 @@ macro_rules! region {
 
 const FIRST: u64 = 0x8000000000000000;
 
-// The bits and the length of a name, the last key there, and the region.
+// The bits and the length of a name, the last key in its region, and the region.
 const REGIONS: &[(u64, u8, u64, Region)] = &[
     (0, 0, 0xFFFFFFFFFFFFFFFF, region!(0, 0, END, END)),
     (0, 1, 0x7FFFFFFFFFFFFFFF, region!(0, 0, 2147483647, END)),

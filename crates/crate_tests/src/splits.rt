@@ -56,7 +56,7 @@ fn base_rows(rt: &impl Abort, alloc: Global) -> Bucket {
     Bucket::from_rows(alloc, &[row(1, 9), row(27, 7)]).expect(rt, "a bucket")
 }
 
-// A split into two, of a bucket that has a row behind its base.
+// A split in two of a bucket that has a row added to its base.
 fn two_children(rt: &impl Abort, alloc: Global) -> Prepared {
     let bucket = base_rows(rt, alloc).with_put(row(UPPER, 4));
     let ticket = begun(alloc, 5, bucket.expect(rt, "a bucket")).expect(rt, "a ticket");

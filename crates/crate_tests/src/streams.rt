@@ -1,4 +1,4 @@
-//! Reads and puts on the happy path, failing in mid-stream, and over short reads and writes.
+//! Reads and puts that succeed, that fail in mid-stream, and over short reads and writes.
 use crate::checks::same_bytes;
 use io_edge::{MemSink, MemSource, ReadFault, Sink, Source, StdSink, StdSource, read_all};
 use std::alloc::Global;
@@ -8,7 +8,7 @@ use std::process::Abort;
 use std::test::Fail;
 use zorder::Memory;
 
-// Gives one byte a call, counting down to 1, and fails once its number has come to `failing`.
+// Returns one byte a call, counting down to 1, and fails when its number is `failing`.
 #[derive(Drop)]
 struct Countdown {
     number: u8,
@@ -29,7 +29,7 @@ impl Read for Countdown {
     }
 }
 
-// Takes two bytes a call, and nothing once its room is used up.
+// Accepts two bytes a call, and nothing when its room is used up.
 #[derive(Drop)]
 struct Pairs {
     room: usize,
@@ -57,7 +57,7 @@ fn expect_all<S: Source>(rt: &impl Abort, alloc: Global, source: &mut S, most: u
     same_bytes(rt, all.as_slice(), text);
 }
 
-// Whether a read of everything comes to a text that is too long, or else to a fault of the source.
+// Whether a read of everything finds that the text is too long, or ends with a fault of the source.
 fn is_too_long<S: Source>(alloc: Global, source: &mut S, most: usize) -> Option<bool> {
     match read_all(alloc, source, most) {
         Err(ReadFault::TooLong) => Some(true),
@@ -76,7 +76,7 @@ fn expect_fault<S: Source>(
     assert_same!(rt; is_too_long(alloc, source, most), Some(too_long));
 }
 
-// Fails unless a read gives so many bytes, or fails where it is to.
+// Fails unless a read returns so many bytes, or fails where it is to.
 fn expect_read<S: Source>(rt: &impl Abort, source: &mut S, into: &mut [u8], wanted: Option<usize>) {
     assert_same!(rt; source.read(into).ok(), wanted);
 }
@@ -122,7 +122,7 @@ fn listed_reads_fail_and_take_nothing(rt: HostRuntime) {
     );
 }
 
-// Fails unless a sink takes these pieces, and those alone that it is to take.
+// Fails unless a sink accepts exactly those of these pieces that it is to accept.
 fn expect_taken<K: Sink>(rt: &impl Abort, sink: &mut K, pieces: &[(&[u8], bool)]) {
     for (piece, is_taken) in pieces {
         assert_same!(rt; sink.put(piece).is_ok(), *is_taken);
@@ -149,7 +149,7 @@ fn a_sink_in_memory_keeps_what_fits(rt: HostRuntime) {
     same_bytes(&rt, sink.bytes(), b"abcde");
 }
 
-// Gives 5, 4, 3, 2 and 1, one a read, and fails in place of this one.
+// Returns 5, 4, 3, 2 and 1, one a read, and fails instead of this one.
 fn counting_down(failing: u8) -> StdSource<Countdown> {
     StdSource::new(Countdown { number: 5, failing })
 }

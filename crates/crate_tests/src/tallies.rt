@@ -1,4 +1,4 @@
-//! A tally along a drawn log, beside a plain count of the objects inside each fence.
+//! A tally along a drawn log, compared with a plain count of the objects inside each fence.
 use crate::logs::fixtures::log_of;
 use crate::memory::disk_of;
 use cell_format::Cell;
@@ -16,7 +16,7 @@ const NOBODY: Places = [None; 8];
 
 const CELLS: u64 = 100;
 
-// One holds another, and the third shares an edge with both.
+// One fence contains another, and the third shares an edge with both.
 const THREE_FENCES: &[u8] = b"fence,x,y,a,b\n5,0,0,7,7\n2,2,2,3,7\n9,7,7,11,11\n";
 
 // A linear congruential generator (Knuth's MMIX).
@@ -32,7 +32,7 @@ fn drawn_point(draw: u64) -> Point {
     }
 }
 
-// A cell that may follow where the object is here.
+// A cell that may follow if the object is here.
 fn drawn_cell(id: u64, at: Option<Point>, draw: u64) -> Cell {
     let to = drawn_point(draw);
     if at.is_none() {
@@ -52,7 +52,7 @@ fn drawn_cell(id: u64, at: Option<Point>, draw: u64) -> Cell {
     }
 }
 
-// Brings the cell's object to where it then is.
+// Moves the cell's object to its new position.
 fn bring(places: &mut Places, cell: &Cell) {
     let (id, at) = match cell {
         Cell::Put { id, at, .. } | Cell::Move { id, at, .. } => (*id, Some(*at)),

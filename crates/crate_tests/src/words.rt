@@ -48,7 +48,7 @@ fn add(rt: &impl Abort, alloc: Global, words: &mut Vec<String>, word: &str) {
     words.push(word).expect(rt, "no memory");
 }
 
-// What a line of words asks for.
+// Fails unless a line of words has this meaning.
 fn expect_asked(rt: &impl Abort, alloc: Global, line: &str, wanted: Said<'_>) {
     let words = words_of(rt, alloc, line);
     assert_same!(rt; said(command_in(words.as_slice())), wanted);

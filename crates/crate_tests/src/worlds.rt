@@ -3,7 +3,7 @@ use plain_list::{Op, World, after};
 use std::alloc::Global;
 use zorder::{Memory, Placed};
 
-/// The world behind one more operation.
+/// The world after one more operation.
 pub fn next(world: World, op: &Op) -> Result<World, Memory> {
     match after(world, op) {
         Ok(world) => Ok(world),
@@ -11,7 +11,7 @@ pub fn next(world: World, op: &Op) -> Result<World, Memory> {
     }
 }
 
-/// A world of these objects, each of moment 0.
+/// A world of these objects, each with moment 0.
 pub fn world_of(alloc: Global, objects: &[Placed]) -> Result<World, Memory> {
     let mut world = World::empty(alloc);
     for object in objects {

@@ -23,23 +23,23 @@ use store_file::{
 /// The company's store over a file, on any drive.
 pub type Vans<D> = Store<KdTrie, D, OverFile>;
 
-/// A pass of it.
+/// A pass of the store.
 pub type VanPass<D> = Pass<SharedBook<KdTrie, D, OverFile>>;
 
-// A caller of it.
+// A caller of the store.
 type VanClient<'s, D> = Client<'s, KdTrie, D, OverFile>;
 
-// The session of the one who asks for all drivers.
+// The session of the caller that looks at all drivers' vans.
 const OFFICE: u8 = 5;
 
-/// What a day came to, and how much room was left in the evening.
+/// The result of a day, and how much room was left in the evening.
 #[derive(Clone, Copy)]
 pub struct DayEnd {
     pub told: [Told; 4],
     pub room: Room,
 }
 
-/// Two days over a store, which goes on over a second file then. It is closed, and the drives with it.
+/// Two days over a store. After them the store continues over a second file. Closes it, and returns the drives.
 pub fn play_days<D: LogDisk + Send, R: Threads + Wait + Sync>(
     rt: &R,
     alloc: Global,
@@ -83,7 +83,7 @@ fn play_day<D: LogDisk + Send, R: Threads + Wait + Sync>(
     }
 }
 
-// The end of a day: the next one begins with an empty history, over the same log.
+// The end of a day. The next day begins with an empty history, over the same log.
 fn end_day<D: LogDisk>(
     alloc: Global,
     vans: Vans<D>,
@@ -110,7 +110,7 @@ fn end_day<D: LogDisk>(
     }
 }
 
-// The end of the days: the store goes on over a fresh log in the other file.
+// The end of the days. The store continues over a fresh log in the other file.
 fn end_days<D: LogDisk>(
     alloc: Global,
     vans: Vans<D>,
@@ -159,7 +159,7 @@ fn drivers<D: LogDisk, R: Wait>(
     Vec::from_array(alloc, drivers).ok()
 }
 
-// All drivers at once, each in a thread of their own, and what they were told then.
+// All drivers at once, each in their own thread, and their results.
 fn drive_all_day<D: LogDisk + Send, R: Threads + Wait + Sync>(
     rt: &R,
     alloc: Global,
@@ -180,7 +180,7 @@ fn drive_all_day<D: LogDisk + Send, R: Threads + Wait + Sync>(
     ])
 }
 
-/// How many vans of each driver are where a day has left them, as a store answers that was opened after it. The store is closed.
+/// How many vans of each driver are where a day has left them, as a store opened after it reports. Closes the store.
 pub fn look_after<D: LogDisk, R: Wait>(
     rt: &R,
     alloc: Global,

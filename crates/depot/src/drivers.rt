@@ -1,4 +1,5 @@
-//! The drivers of a day: each reports their vans with a client of their own, and watches who leaves the yard and comes back.
+//! The drivers of a day. Each reports their vans with a client of their own, and watches which vans leave the yard and
+//! come back.
 ghost use Rattle.store_client.specs.Caller.{Keeps};
 
 use crate::yard::{Day, ROWS, VANS, van_of, yard};
@@ -11,7 +12,7 @@ use std::sync::Wait;
 use store_client::{Change, Client, Listed, Work};
 use zorder::Placed;
 
-/// A driver, and the fence of their yard, which only their own vans cross.
+/// A driver, and the fence of their yard. Only their own vans cross it.
 #[derive(Drop)]
 pub struct Driver {
     number: u8,
@@ -20,8 +21,8 @@ pub struct Driver {
     good: u32,
 }
 
-/// What a driver's day came to: how many reports were told what they should be, how many vans came into the yard and left it, and how many
-/// are inside.
+/// The result of a driver's day: how many reports had the expected answer, how many vans came into the yard and left
+/// it, and how many are inside.
 #[derive(Clone, Copy)]
 pub struct Told {
     pub good: u32,
@@ -30,7 +31,7 @@ pub struct Told {
     pub inside: u64,
 }
 
-// A fence's tally that begins with these vans inside, which is no event of the day.
+// A tally of the fence that begins with these vans inside. That is no event of the day.
 fn tally_of(alloc: Global, fence: Fence, inside: &[Placed]) -> Option<Tally> {
     let fences = Fences::of(alloc, &[fence]).ok()?;
     let mut tally = Tally::new(alloc, &fences).ok()?;
@@ -46,7 +47,7 @@ fn count(events: &[Event], crossing: Crossing) -> usize {
     events.filter(|event| event.crossing == crossing).count()
 }
 
-// How many are inside the only fence.
+// How many vans are inside the only fence.
 fn inside(counts: &[FenceCount]) -> u64 {
     counts.first().map_or(0, |count| count.inside)
 }
@@ -74,7 +75,7 @@ impl Driver {
         })
     }
 
-    // Tells the yard what a report has changed, if anything.
+    // Reports to the yard's tally what a report has changed, if anything.
     fn watch(&mut self, change: Option<Change>) -> Result<(), WatchFault> {
         match change {
             Some(change) => self.yard.changed(&change),
@@ -82,7 +83,7 @@ impl Driver {
         }
     }
 
-    /// What the day came to.
+    /// The result of the day.
     pub fn end(mut self, alloc: Global) -> Told {
         let events = self.yard.take_events(alloc);
         Told {
@@ -95,7 +96,7 @@ impl Driver {
 }
 
 impl<R: Wait> Work<R> for Driver {
-    // Reports until a call is refused, or the yard can't be watched any more.
+    // Reports until a call is refused, or until the tally of the yard fails.
     fn work<I: Index, D: LogDisk, O: Start>(&mut self, rt: &R, client: &mut Client<'_, I, D, O>)
         ensures client { Keeps client.old client.new }
     {
@@ -114,7 +115,7 @@ impl<R: Wait> Work<R> for Driver {
     }
 }
 
-/// How many of a driver's vans are found where the day left them.
+/// How many of a driver's vans are where the day left them.
 pub fn count_found<I: Index, D: LogDisk, O: Start, R: Wait>(
     rt: &R,
     client: &mut Client<'_, I, D, O>,

@@ -1,12 +1,13 @@
-//! A delivery company over the store and a log: for two days four drivers report where their vans are, each in a thread of their own, and
-//! watch who leaves the yard and comes back. What they report is kept in a log in one of two files, `depot.log` and `depot.next.log`. A run
-//! makes them where they aren't there, and else goes on with what it finds, where the last run left the vans. Between the days the store is
-//! renewed: its history begins anew. When the days are over it is rotated into the other file, where there is a record for each van and none
-//! for where it was before. Then both are opened again, and each van is asked for.
+//! A delivery company over the store and a log. For two days four drivers report where their vans are. Each driver has
+//! a thread of their own, and watches which vans leave the yard and come back. The reports are kept in a log in one of
+//! two files, `depot.log` and `depot.next.log`. A run creates the files if they aren't there. Otherwise it continues
+//! with what it finds, where the last run left the vans. Between the days the store is renewed, so its history begins
+//! again. After the days it is rotated into the other file. That file has one record for each van, and none for its
+//! earlier positions. Then both files are opened again, and each van is looked up.
 //!
-//! What it prints is the same however the threads run: the drivers report vans of their own, each in a quarter of the town of their own,
-//! and a leaf is split where it has too many vans, however they came there. So what each is told, and how many entries and records there
-//! are, don't depend on who comes first.
+//! The output is the same however the threads run. The drivers report vans of their own, each in a quarter of the town
+//! of their own. A leaf is split if it has too many vans, whatever order they came in. So neither the answers nor the
+//! numbers of entries and records depend on the order of the threads.
 #![tactic(auto)]
 
 ghost use Rattle.std.specs.Prelude.{IfOk};
@@ -76,7 +77,7 @@ fn open_vans<D: LogDisk>(
     opened.map_err(|refused| Trouble::Open(refused.cause))
 }
 
-// Plays two days over the log, from the latest moment on that the log knows. Gives the last one.
+// Plays two days over the log, from the latest moment in the log on. Returns the last day.
 fn work<R: Threads + Wait + Sync + AllocGlobal + Print, D: LogDisk + Send>(
     rt: &R,
     first: D,
@@ -101,7 +102,7 @@ fn work<R: Threads + Wait + Sync + AllocGlobal + Print, D: LogDisk + Send>(
     Ok(day.next())
 }
 
-// Opens both files again, as the next run will, and asks for each van.
+// Opens both files again, as the next run will, and looks up each van.
 fn look_again<R: Wait + AllocGlobal + Print, D: LogDisk>(
     rt: &R,
     first: D,
@@ -134,7 +135,7 @@ fn drive<R: Files + Clone + Drop>(rt: &R) -> io::Result<FileDisk<R>> {
     Ok(FileDisk::new(rt.clone()?))
 }
 
-// The drives of a run: two for its days, and two for the opening behind them.
+// The drives of a run: two for its days, and two for the opening afterwards.
 struct Drives<D> {
     days: [D; 2],
     again: [D; 2],

@@ -3,12 +3,12 @@ use std::io;
 use store_file::EitherCause;
 use thiserror::Error;
 
-/// Why a run ended early. Each change that a driver was told of is in the log.
+/// Why a run ended early. Each change that a driver's call has confirmed is in the log.
 #[derive(Debug, Drop, Error)]
 pub enum Trouble {
     #[error("the store isn't opened: {0}")]
     Open(EitherCause),
-    /// The drive failed in the append of this record. The log takes no more until it is opened anew.
+    /// The drive failed in the append of this record. The log takes no more records until it is opened again.
     #[error("record {cell} isn't in the log, or may not be")]
     Lost { cell: u64 },
     #[error("no driver begins the day")]

@@ -1,4 +1,4 @@
-//! Which van is where and when, and what its driver should be told.
+//! Where each van is and when, and the answer that its driver should get.
 ghost use Rattle.zorder.specs.Region.{IsBox};
 
 use fence_watch::Fence;
@@ -6,13 +6,13 @@ use plain_list::Stamped;
 use store_client::Report;
 use zorder::{Point, Region};
 
-/// How many reports a driver makes in a day: of each van in turn, round by round.
+/// How many reports a driver makes in a day: one for each van, round by round.
 pub const ROWS: u32 = 27;
 
 /// How many vans a driver has.
 pub const VANS: u32 = 3;
 
-// The round after which each van is back where it began. It goes away until half of the rounds are over.
+// The round after which each van is back where it began. It drives away until half of the rounds are over.
 const LAST: u32 = 8;
 
 // Where each driver's quarter begins.
@@ -20,7 +20,7 @@ const LOW: u32 = 1_000_000_000;
 
 const HIGH: u32 = 3_300_000_000;
 
-/// A day, by the moment at which it begins.
+/// A day, named by the moment at which it begins.
 #[derive(Clone, Copy)]
 pub struct Day {
     morning: u64,
@@ -36,7 +36,7 @@ fn corner(driver: u8) -> Point {
     }
 }
 
-/// The yard of a driver's quarter, where the vans are in the first two rounds and the last two.
+/// The yard of a driver's quarter. The vans are there in the first two rounds and the last two.
 pub fn yard(driver: u8) -> Fence
     ensures { IsBox result.region }
 {
@@ -57,14 +57,14 @@ pub fn van_of(driver: u8, row: u32) -> u64 {
 }
 
 impl Day {
-    /// The day behind this moment.
+    /// The day after this moment.
     pub fn behind(latest: u64) -> Day {
         Day {
             morning: latest.saturating_add(1),
         }
     }
 
-    /// The day behind this one.
+    /// The day after this one.
     pub fn next(&self) -> Day {
         Day::behind(self.morning.saturating_add(u64::from(LAST)))
     }
@@ -84,7 +84,8 @@ impl Day {
         }
     }
 
-    /// Whether a row is told what it should be, whatever the others do. A van is new, or an earlier day has left it where this one begins.
+    /// Whether a row had the expected answer, whatever the other drivers do. A van is new, or an earlier day has left
+    /// it where this day begins.
     pub fn is_good(&self, driver: u8, row: u32, told: Report) -> bool {
         match told {
             Report::New => row < VANS,

@@ -1,4 +1,5 @@
-//! Commands one after the other over the drives that the one before gave back, or over what a crash in it left of one of them.
+//! Commands in sequence. Each runs over the drives that the one before returned, or over what a crash in it left of one
+//! of them.
 use crate::checks::holds;
 use crate::memory::{Left, Plan, held_disk, run_drives};
 use disk_mem::MemDisk;
@@ -8,7 +9,8 @@ use std::process::Abort;
 use std::sync::Wait;
 use std::thread::Threads;
 
-// What the next command runs over. A crash came so many device calls before the end of this one; the drive holds what it left.
+// What the next command runs over. A crash came a number of device calls before the end of this one, and the drive
+// holds what it left.
 #[derive(Clone, Copy)]
 enum Next {
     Both,
@@ -17,7 +19,7 @@ enum Next {
     SecondAsFirst,
 }
 
-// A command, what it writes with status 0, and what comes behind it.
+// A command, what it writes with status 0, and what follows it.
 #[derive(Clone, Copy)]
 struct Link<'a> {
     name: &'a str,
@@ -35,7 +37,8 @@ const LINK: Link<'static> = Link {
     next: Next::Both,
 };
 
-// A log is lost a record of, gone on with, written anew; and what is written anew is gone on with, copied, and its copy gone on with.
+// A log loses a record, continues, and is written as a fresh log. The fresh log continues and is copied, and its copy
+// continues.
 const LOG_TO_COPY: &[Link<'static>] = &[
     LINK,
     Link {
@@ -121,7 +124,7 @@ const LOG_TO_COPY: &[Link<'static>] = &[
     },
 ];
 
-// A log is made again behind a crash, and so is what is written anew; then both grow.
+// A log is created again after a crash, and so is a fresh log. Then both grow.
 const MADE_AGAIN: &[Link<'static>] = &[
     Link {
         name: "init, which a crash comes in",
@@ -185,7 +188,7 @@ const MADE_AGAIN: &[Link<'static>] = &[
     },
 ];
 
-// What a crash leaves: of all lengths the nearest to this one, with this byte wherever any may stand.
+// What a crash leaves: the image whose length is nearest to this one, with this value in each free byte.
 #[derive(Clone, Copy)]
 struct Crash {
     len: u64,
@@ -196,7 +199,7 @@ fn empty_disk<R: Abort>(rt: &R, alloc: Global) -> MemDisk {
     held_disk(alloc, &[], &[]).expect(rt, "it failed")
 }
 
-// A drive that holds what a crash left of this one, so many calls ago.
+// A drive that holds what a crash left of this one, `calls` calls ago.
 fn crashed<R: Abort>(rt: &R, alloc: Global, disk: &MemDisk, calls: u64, crash: Crash) -> MemDisk {
     let moment = disk.moments().saturating_sub(calls);
     let image = disk

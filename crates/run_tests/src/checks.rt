@@ -1,4 +1,4 @@
-//! Lists of runs, and what each leaves. Functions over a runtime alone: a test's proof then holds no drive.
+//! Lists of runs, and what each leaves. The functions take a runtime alone, so the proof of a test holds no drive.
 use crate::memory::{EMPTY_LOG, Left, PUT_LOG, Plan, run_plan};
 use disk_mem::Fail;
 use std::alloc::Global;
@@ -12,29 +12,29 @@ pub const PLAY_BY_4: &[&str] = &["play", "log", "--bucket", "4"];
 /// A run, and what it is to leave.
 #[derive(Clone, Copy)]
 pub struct Case<'a> {
-    /// What fails a test, if the run doesn't leave that.
+    /// The message of the test if the run doesn't leave that.
     pub name: &'a str,
     pub words: &'a [&'a str],
     pub input: &'a str,
-    /// The bytes of the file. Where there are none, there is a drive that fails at each call.
+    /// The bytes of the file. `None` is a drive that fails at each call.
     pub file: Option<&'a [u8]>,
     /// The calls of each end that fail.
     pub reads: &'a [u64],
     pub puts: &'a [u64],
     pub calls: &'a [Fail],
     pub status: u8,
-    /// What the sink takes.
+    /// What the sink receives.
     pub text: &'a str,
-    /// The bytes of the file then.
+    /// The bytes of the file afterwards.
     pub held: &'a [u8],
     /// How many entries the history has.
     pub entries: usize,
-    /// The attaches of the first drive, a line each. The second one has none.
+    /// The attaches of the first drive, a line each. The second drive has none.
     pub attaches: &'a str,
 }
 
 impl<'a> Case<'a> {
-    /// The same over these bytes, which it is to leave.
+    /// The same over these bytes, which it is to leave unchanged.
     pub fn over(&self, file: &'a [u8]) -> Case<'a> {
         Case {
             file: Some(file),
@@ -43,7 +43,7 @@ impl<'a> Case<'a> {
         }
     }
 
-    /// What goes into the run.
+    /// The inputs of the run.
     pub fn plan(&self) -> Plan<'a> {
         Plan {
             words: self.words,
@@ -64,7 +64,7 @@ impl<'a> Case<'a> {
     }
 }
 
-/// Where all goes well, over no log and with no rows.
+/// A run in which all goes well, over no log and with no rows.
 pub const NO_LOG: Case<'static> = Case {
     name: "a run over no log",
     words: &["play", "-"],
@@ -115,14 +115,14 @@ pub const CHECK: Case<'static> = Case {
     ..EMPTY
 };
 
-/// Ends the test with this message unless it is so.
+/// Ends the test with this message unless `is_so` holds.
 pub fn holds<R: Abort>(rt: &R, is_so: bool, message: &str) {
     if !is_so {
         rt.panic(message)
     }
 }
 
-/// Runs it.
+/// Runs the case.
 pub fn run_case<R: Abort + Threads + Wait + Sync>(rt: &R, alloc: Global, case: &Case<'_>) -> Left {
     run_plan(rt, alloc, &case.plan())
 }
@@ -133,14 +133,14 @@ pub fn is_left<R: Abort + Threads + Wait + Sync>(rt: &R, alloc: Global, case: &C
     holds(rt, case.is_left(&left), case.name);
 }
 
-/// Fails unless the run leaves what it should, and changes and syncs nothing on the way.
+/// Fails unless the run leaves what it should, and changes and syncs nothing.
 pub fn is_untouched<R: Abort + Threads + Wait + Sync>(rt: &R, alloc: Global, case: &Case<'_>) {
     let left = run_case(rt, alloc, case);
     let is_untouched = left.disk.moments() == 0;
     holds(rt, is_untouched && case.is_left(&left), case.name);
 }
 
-/// The same of each of these runs.
+/// The same for each of these runs.
 pub fn each_is_untouched<R: Abort + Threads + Wait + Sync>(
     rt: &R,
     alloc: Global,
@@ -158,7 +158,7 @@ pub fn each_is_left<R: Abort + Threads + Wait + Sync>(rt: &R, alloc: Global, cas
     }
 }
 
-/// The same of a run with each of these words.
+/// The same for a run with each of these words.
 pub fn each_words_are_left<R: Abort + Threads + Wait + Sync>(
     rt: &R,
     alloc: Global,

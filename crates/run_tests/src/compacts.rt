@@ -39,7 +39,7 @@ const FRESH_TWO_LEAVES_LOG: &[u8] = b"MDLOCLOG\x02\x01\0\0\0\0\0\0\
     \x01\x01\0\0\0\0\0\0\0\x05\0\0\0\x01\0\0\0\x01\0\0\0\0\0\0\0\0\0\0\0\0\0\0\
     \0";
 
-// Put 7 at (3,5) of moment 5, put 8, move 7 to (4,5) of moment 9, and drop 8.
+// Put 7 at (3,5) with moment 5, put 8, move 7 to (4,5) with moment 9, and remove 8.
 const MOVED_LOG: &[u8] = b"MDLOCLOG\x02\x01\0\0\0\0\0\0\
     \x01\x01\0\0\0\0\0\0\0\x07\0\0\0\x03\0\0\0\x05\0\0\0\0\0\0\0\x05\0\0\0\0\0\0\
     \x01\x01\0\0\0\0\0\0\0\x08\0\0\0\x01\0\0\0\x01\0\0\0\0\0\0\0\0\0\0\0\0\0\0\
@@ -113,7 +113,7 @@ const ATTACH: &[Fail] = &[Fail {
     number: 1,
 }];
 
-// The second file stays, and isn't attached, where the first one is refused.
+// If the first file is refused, the second file stays unchanged, and isn't attached.
 const UNREAD: Pair<'static> = Pair {
     new: &[9; 3],
     written: &[9; 3],

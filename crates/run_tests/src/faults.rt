@@ -1,4 +1,4 @@
-//! Plays over a log where an end fails, or the log isn't opened.
+//! Plays over a log while an end fails, or while the log isn't opened.
 use crate::checks::{CHECK, Case, EMPTY, each_is_left, holds, is_left, run_case};
 use crate::memory::{Left, PUT_LOG};
 use disk_mem::{DiskCall, Fail, MemDisk};
@@ -23,7 +23,7 @@ fn is_third_put_lost(entries: &[Entry]) -> bool {
     }
 }
 
-// Whether the put of 9 at (5,5) of moment 12 was lost, the third row.
+// Whether the put of 9 at (5,5) with moment 12, the third row, was lost.
 fn is_put_of_9(lost: &Lost) -> bool {
     match lost {
         Lost::Call {
@@ -44,7 +44,7 @@ fn is_put(op: &Op, wanted: u64, x: u32, y: u32, since: u64) -> bool {
     }
 }
 
-// A crash image, with this for the commit byte of the third cell wherever a crash may leave any.
+// A crash image. Where a crash may leave any commit byte of the third cell, it has this one.
 fn image_of(disk: &MemDisk, commit_byte: u8) -> Result<Vec<u8>, Memory> {
     match disk.pick(disk.moments(), 113, &[commit_byte]) {
         Ok(image) => Ok(image),
@@ -57,7 +57,7 @@ const THREE_PUTS: &Case<'static> = &Case {
     ..EMPTY
 };
 
-// A run of three puts where these calls fail.
+// A run of three puts while these calls fail.
 fn three_puts(calls: &[Fail]) -> Case<'_> {
     Case {
         calls,
@@ -69,13 +69,14 @@ const TWO_CELLS: &str = "cells 2\npoints 2\nleaves 1\nunfinished 0\n";
 
 const THREE_CELLS: &str = "cells 3\npoints 3\nleaves 1\nunfinished 0\n";
 
-// A run of three puts where the sync of this number fails.
+// A run of three puts while the sync of this number fails.
 fn run_failing<R: Abort + Threads + Wait + Sync>(rt: &R, alloc: Global, number: u64) -> Left {
     let call = DiskCall::Sync;
     run_case(rt, alloc, &three_puts(&[Fail { call, number }]))
 }
 
-// Fails unless such a run ends at the third put, the file then holds so much, and a crash leaves two puts or so much.
+// Fails unless such a run ends at the third put, the file holds these bytes then, and a crash leaves two puts or these
+// bytes.
 fn ends_at_the_third<R: Abort + Threads + Wait + Sync>(
     rt: &R,
     alloc: Global,
@@ -102,7 +103,7 @@ fn holds_so_much<R: Abort + Threads + Wait + Sync>(
     is_image_checked(rt, alloc, disk, 1, held);
 }
 
-// Fails unless `check` writes this of the crash image with this commit byte.
+// Fails unless `check` writes this about the crash image with this commit byte.
 fn is_image_checked<R: Abort + Threads + Wait + Sync>(
     rt: &R,
     alloc: Global,
@@ -125,12 +126,13 @@ fn checking<'a>(file: &'a [u8], counts: &'a str) -> Case<'a> {
     }
 }
 
-// Fails unless `check` writes this of a file.
+// Fails unless `check` writes this about a file.
 fn is_checked<R: Abort + Threads + Wait + Sync>(rt: &R, alloc: Global, file: &[u8], counts: &str) {
     is_left(rt, alloc, &checking(file, counts));
 }
 
-// Of each image that a crash may leave the commit byte of the third cell is clear, or it is set behind a synced cell.
+// In each image that a crash may leave, the commit byte of the third cell is clear, or it is set and the cell was
+// synced before.
 #[test]
 fn a_failed_sync_ends_a_run_at_its_cell(rt: HostRuntime) {
     ends_at_the_third(&rt, rt.alloc(), 6, TWO_CELLS);
@@ -166,7 +168,7 @@ const OTHER: &[u8] = b"MDLOCLOG\x03\x01\0\0\0\0\0\0\0";
 
 const HEADER_ALONE: &[u8] = b"MDLOCLOG\x02\x01\0\0\0\0\0\0";
 
-// A put that calls nothing and leaves the file.
+// A put that makes no call and leaves the file unchanged.
 const UNOPENED: &[Case<'static>] = &[
     Case {
         name: "a put over a set commit byte alone",

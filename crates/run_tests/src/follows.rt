@@ -1,4 +1,4 @@
-//! `follow` of worked logs by worked turns: what NEW then has and what is told of it, and what is refused.
+//! `follow` of worked logs by worked turns: what NEW has then, the reports, and the refusals.
 use crate::checks::{Case, EMPTY, holds};
 use crate::hostile::records::{DROP, PUT, Record, front};
 use crate::hostile::runs::images_on;
@@ -24,13 +24,13 @@ macro_rules! reports {
     };
 }
 
-// A log of put 7 at (3,5), and drop 7.
+// A log of put 7 at (3,5), and remove 7.
 const PUT_AND_DROP_LOG: &[u8] = b"MDLOCLOG\x02\x01\0\0\0\0\0\0\
     \x01\x01\0\0\0\0\0\0\0\x07\0\0\0\x03\0\0\0\x05\0\0\0\0\0\0\0\0\0\0\0\0\0\0\
     \x01\x03\0\0\0\0\0\0\0\x07\0\0\0\0\0\0\0\0\0\0\0\0\0\0\0\0\0\0\0\0\0\0\
     \0";
 
-// `follow` of no cells by no turns, where NEW isn't there.
+// `follow` of no cells by no turns, if NEW isn't there.
 const RUN: Case<'static> = Case {
     name: "follow of no cells by no turns",
     words: &["follow", "log", "new"],
@@ -47,7 +47,7 @@ const FOLLOW: Pair<'static> = Pair {
     makes: "makes new\n",
 };
 
-// Of two cells, which both arrive.
+// Two cells, which both arrive.
 const BOTH_ARRIVE: Case<'static> = Case {
     name: "follow of a put and a drop, out of order and twice",
     input: turns!(
@@ -59,7 +59,7 @@ const BOTH_ARRIVE: Case<'static> = Case {
     ..RUN
 };
 
-// Of the same two cells.
+// The same two cells.
 const OF_TWO: Case<'static> = Case {
     name: "follow of a put and a drop by no turns",
     file: Some(PUT_AND_DROP_LOG),
@@ -72,19 +72,19 @@ const PUT_LOG_OF_1: &[u8] = b"MDLOCLOG\x01\x01\0\0\0\0\0\0\
     \x01\x01\0\0\0\0\0\0\0\x07\0\0\0\x03\0\0\0\x05\0\0\0\0\0\0\0\0\0\0\0\0\0\0\
     \0";
 
-// The same of version 2, whose splits make four children.
+// The same of version 2, whose splits create four children.
 const QUAD_PUT_LOG: &[u8] = b"MDLOCLOG\x02\x02\0\0\0\0\0\0\
     \x01\x01\0\0\0\0\0\0\0\x07\0\0\0\x03\0\0\0\x05\0\0\0\0\0\0\0\0\0\0\0\0\0\0\
     \0";
 
-// A log of put 7 at (3,5), with 40 bytes behind it.
+// A log of put 7 at (3,5), with 40 bytes after it.
 const LONG_PUT_LOG: &[u8] = b"MDLOCLOG\x02\x01\0\0\0\0\0\0\
     \x01\x01\0\0\0\0\0\0\0\x07\0\0\0\x03\0\0\0\x05\0\0\0\0\0\0\0\0\0\0\0\0\0\0\
     \0\
     \x05\x05\x05\x05\x05\x05\x05\x05\x05\x05\x05\x05\x05\x05\x05\x05\x05\x05\x05\x05\
     \x05\x05\x05\x05\x05\x05\x05\x05\x05\x05\x05\x05\x05\x05\x05\x05\x05\x05\x05\x05";
 
-// NEW with no file, with 5 bytes, with 17 of any content, and with a front of FILE's cells.
+// NEW with no file, with 5 bytes, with 17 of any content, and with the first of FILE's cells.
 const FOLLOWED: &[Pair<'static>] = &[
     FOLLOW,
     Pair {
@@ -181,7 +181,7 @@ fn follow_copies_the_cells_that_arrive_in_their_order(rt: HostRuntime) {
     each_pair_is_left(&rt, rt.alloc(), FOLLOWED);
 }
 
-// The first sync is that of making NEW.
+// The first sync is that of creating NEW.
 const THIRD_SYNC: Pair<'static> = Pair {
     run: Case {
         name: "follow where the third sync fails",
@@ -211,8 +211,8 @@ const DROP_7: Record = Record {
     ..PUT_7
 };
 
-// Fails unless each file that a crash may leave, once the log was made, has none of the cells or the first one, and there are both of these
-// in the end.
+// Fails unless each file that a crash may leave, after the log was created, has none of the cells or the first one. At
+// the last moment a crash may leave either.
 fn leaves_none_or_one<R: Abort + Threads + Wait + Sync>(rt: &R, alloc: Global) {
     let left = run_both(rt, alloc, &THIRD_SYNC.run.plan(), &[], THIRD_SYNC.failing);
     let mut seen = [false; 2];
@@ -235,8 +235,8 @@ fn where_the_sync_of_a_cell_fails_follow_leaves_it_or_not(rt: HostRuntime) {
     leaves_none_or_one(&rt, rt.alloc());
 }
 
-// Logs of one cell or two, as NEW: put 8 at (3,5); put 7 at (3,6); put 7 at (3,5) of moment 1; put 7 at (3,5) and move 7 to (3,5); and put 8 at
-// (3,5) with a cell of kind 9 behind it.
+// Logs of one cell or two, as NEW: put 8 at (3,5); put 7 at (3,6); put 7 at (3,5) with moment 1; put 7 at (3,5) and
+// move 7 to (3,5); and put 8 at (3,5) with a cell of kind 9 after it.
 const OTHER_ID: &[u8] = b"MDLOCLOG\x02\x01\0\0\0\0\0\0\
     \x01\x01\0\0\0\0\0\0\0\x08\0\0\0\x03\0\0\0\x05\0\0\0\0\0\0\0\0\0\0\0\0\0\0\
     \0";
@@ -259,7 +259,7 @@ const OTHER_AND_DAMAGED: &[u8] = b"MDLOCLOG\x02\x01\0\0\0\0\0\0\
     \x01\x09\0\0\0\0\0\0\0\x07\0\0\0\0\0\0\0\0\0\0\0\0\0\0\0\0\0\0\0\0\0\0\
     \0";
 
-// A NEW that isn't FILE's, which keeps its bytes.
+// A NEW that isn't FILE's. It keeps its bytes.
 macro_rules! refused {
     ($name:literal, $new:expr, $line:literal) => {
         Pair {
@@ -295,7 +295,7 @@ const LONGER_THAN_FILE: Pair<'static> = Pair {
     ..FOLLOW
 };
 
-// NEW stays, and isn't attached, where FILE is refused.
+// If FILE is refused, NEW stays unchanged, and isn't attached.
 const UNREAD: Pair<'static> = Pair {
     run: Case {
         name: "follow of a damaged log",
@@ -397,7 +397,7 @@ fn follow_leaves_a_file_with_other_cells_and_none_for_a_log_that_is_refused(rt: 
     each_pair_is_left(&rt, rt.alloc(), REFUSED);
 }
 
-// Turns at fault, beside a file that is no log: neither file is attached.
+// Faulty turns, with a file that is no log. Neither file is attached.
 const NO_TURNS: Pair<'static> = Pair {
     run: Case {
         name: "follow with a source that fails",
@@ -414,7 +414,7 @@ const NO_TURNS: Pair<'static> = Pair {
 
 const NO_TURN: &Pair<'static> = &NO_TURNS;
 
-// Turns at fault, and their line.
+// Faulty turns, and their line.
 const AT_FAULT: &[(&str, &str)] = &[
     ("", "refused header\n"),
     ("turn,Number\n", "refused header\n"),
@@ -458,7 +458,7 @@ fn at_fault<'a>(turns: &'a str, status: u8, line: &'a str) -> Pair<'a> {
     }
 }
 
-// A record behind the 65,536th turn is one too many, whatever it holds.
+// A record after the 65,536th turn is one too many, whatever it holds.
 fn each_fault<R: Abort + Threads + Wait + Sync>(rt: &R, alloc: Global) {
     pair_is_left(rt, alloc, NO_TURN);
     for (turns, line) in AT_FAULT {

@@ -27,8 +27,8 @@ fn add_put(log: &mut Vec<u8>, id: u32) -> Result<(), AllocError> {
     log.extend_from_slice(&[0; 18])
 }
 
-// What stands behind the 1,048,576 cells: begin 1 of the empty name, install 1, begin 2 of `0`, install 2, drop 2, begin 3 of `00`,
-// install 3, and put 1,048,576 at (3,5).
+// The cells after the 1,048,576 cells: begin 1 of the empty name, install 1, begin 2 of `0`, install 2, remove 2, begin
+// 3 of `00`, install 3, and put 1,048,576 at (3,5).
 const BEHIND: &[u8] = b"\
     \x01\x04\0\0\0\0\0\0\0\x01\0\0\0\0\0\0\0\0\0\0\0\0\0\0\0\0\0\0\0\0\0\0\
     \x01\x05\0\0\0\0\0\0\0\x01\0\0\0\0\0\0\0\0\0\0\0\0\0\0\0\0\0\0\0\0\0\0\
@@ -56,9 +56,9 @@ fn full_disk(alloc: Global) -> Result<MemDisk, Memory> {
     MemDisk::new(alloc, full_log(alloc)?, 34_000_000, 20_000, Vec::new(alloc))
 }
 
-// A put that finds the world full, and one of an object that is there, leave no record of their own. Behind each row the first full leaf is
-// split before the next one. With those at the end there are 511 splits, of two records each: 509 to have 4,096 objects in each leaf, and
-// two where (3,5) is one more.
+// A put that finds the world full, and one of an object that is there, leave no record of their own. After each row the
+// first full leaf is split before the next row. With those at the end there are 511 splits, of two records each: 509
+// until each leaf has 4,096 objects, and two where (3,5) is one more.
 fn keeps_changes_and_splits_alone<R: Abort + Threads + Wait + Sync>(rt: &R, alloc: Global) {
     let disk = full_disk(alloc).expect(rt, "it failed");
     let left = run_over(rt, alloc, CHANGES, disk, &OpenGate);
@@ -85,7 +85,7 @@ fn following(log: &[u8]) -> Plan<'_> {
     }
 }
 
-// Whether `follow` by no turns writes this text, and touches NEW or doesn't.
+// Whether `follow` by no turns writes this text, and whether it touches NEW.
 fn is_followed<R: Abort + Threads + Wait + Sync>(
     rt: &R,
     alloc: Global,
@@ -99,7 +99,7 @@ fn is_followed<R: Abort + Threads + Wait + Sync>(
     holds(rt, is_told, text);
 }
 
-// A log of 1,048,576 cells, and one of a drop more.
+// A log of 1,048,576 cells, and one with one more removal.
 fn follows_so_many<R: Abort + Threads + Wait + Sync>(rt: &R, alloc: Global) {
     let mut log = full_log(alloc).expect(rt, "it failed");
     is_followed(

@@ -1,11 +1,11 @@
-//! The words that a program is handed.
+//! The words that the system passes to a program.
 use crate::checks::holds;
 use machine_run::words_of;
 use std::alloc::Global;
 use std::env::{Env, FillError};
 use std::process::Abort;
 
-// A machine that hands a program these words, its name first.
+// A machine that passes these words to a program. Its name is the first.
 #[derive(Drop)]
 struct Machine {
     words: &'static [&'static [u8]],
@@ -32,7 +32,7 @@ impl Env for Machine {
     }
 }
 
-// Fails unless of these words these are handed on.
+// Fails unless `wanted` of these words are passed on.
 fn hands_on(rt: &impl Abort, alloc: Global, words: &'static [&'static [u8]], wanted: &[&str]) {
     let handed = words_of(&(Machine { words }, alloc)).expect(rt, "no memory");
     let is_so = handed.len() == wanted.len()

@@ -1,7 +1,7 @@
-//! The top call against what goes wrong around it.
+//! The top call against everything that can go wrong around it.
 //!
-//! Damaged logs, drives, sources and sinks that fail, what a crash leaves, ids that all sessions share, and lanes that wait for each other.
-//! What is expected comes from the tables of docs/FORMATS, spelled here anew (`records`).
+//! Damaged logs; drives, sources and sinks that fail; what a crash leaves; ids that all sessions share; and lanes that
+//! wait for each other. The expected results come from the tables of docs/FORMATS, written again here (`records`).
 mod clock;
 mod compacts;
 mod crashes;

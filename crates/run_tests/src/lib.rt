@@ -1,10 +1,11 @@
 //! Tests of the top call over sources, sinks and drives in memory, and no other code.
 //!
-//! Worked rows and their lines, without a log and over one, the commands over a log with worked files, each refusal's line and status, faults
-//! of all ends, the bytes that rows leave, which files are attached, and words that ask for no command; in `hostile` what goes wrong around it.
+//! Worked rows and their lines, without a log and over one; the commands over a log with worked files; each refusal's
+//! line and status; faults of all ends; the bytes that rows leave; which files are attached; and words that name no
+//! command. `hostile` tests what can go wrong around the call.
 //!
-//! Each test compares plain bytes, in functions over a runtime: a proof that knows a drive, a host or what `run` promises takes some times
-//! as long.
+//! Each test compares plain bytes, in functions over a runtime. A proof that knows a drive, a host or the promise of
+//! `run` takes several times as long.
 #![tactic(auto)]
 
 // An input of these rows.

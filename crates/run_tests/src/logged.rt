@@ -32,14 +32,14 @@ const BOX: &str = rows!("1,box,,0,0,3,5,\n");
 
 const ONE_CELL: &str = "cells 1\npoints 1\nleaves 1\nunfinished 0\n";
 
-// A log of put 7 at (3,5), with 40 bytes behind it.
+// A log of put 7 at (3,5), with 40 bytes after it.
 const LONG_LOG: &[u8] = b"MDLOCLOG\x02\x01\0\0\0\0\0\0\
     \x01\x01\0\0\0\0\0\0\0\x07\0\0\0\x03\0\0\0\x05\0\0\0\0\0\0\0\0\0\0\0\0\0\0\
     \0\
     \x05\x05\x05\x05\x05\x05\x05\x05\x05\x05\x05\x05\x05\x05\x05\x05\x05\x05\x05\x05\
     \x05\x05\x05\x05\x05\x05\x05\x05\x05\x05\x05\x05\x05\x05\x05\x05\x05\x05\x05\x05";
 
-// A put is found again, what stands behind a log is cut off, and a split that was begun is unfinished.
+// A put is found again, the bytes after a log are cut off, and a split that was begun is unfinished.
 const FOUND: &[Case<'static>] = &[
     Case {
         name: "a put",
@@ -123,7 +123,7 @@ const BOX_BY_4: Case<'static> = Case {
     ..EMPTY
 };
 
-// What the puts leave is found again. A split that the log left open is begun anew.
+// What the puts leave is found again. A split that the log left open is begun again.
 const SPLITS: &[Case<'static>] = &[
     PUTS_BY_4,
     Case {
@@ -155,7 +155,7 @@ const SPLITS: &[Case<'static>] = &[
     },
 ];
 
-// The key of (3,5), whose first bits are the names of the leaves that have it.
+// The key of (3,5). Its first bits are the names of the leaves that have it.
 const KEY: u64 = 0b11011;
 
 /// A log of puts 1 to 5 at (3,5), and so many splits of this width, each of the leaf that has them.
@@ -176,7 +176,7 @@ pub fn many_leaves_log(alloc: Global, width: u8, splits: u8) -> Result<Vec<u8>, 
     log_of(alloc, width, records.as_slice(), &[0])
 }
 
-// Adds the begin and the install of the split behind so many others, of the leaf whose name has so many bits.
+// Adds the begin and the install of the split after so many others, of the leaf whose name has `len` bits.
 fn add_split(records: &mut Vec<Record>, before: u8, len: u8) -> Result<(), AllocError> {
     let begin = Record {
         kind: BEGIN,
@@ -226,7 +226,7 @@ fn leaving(held: &[u8]) -> Case<'_> {
     }
 }
 
-// Five puts at one point make as many splits as a name may have bits, and are found again.
+// Five puts at one point lead to as many splits as a name may have bits, and are found again.
 fn splits_of_one_point<R: Abort + Threads + Wait + Sync>(rt: &R, alloc: Global) {
     let log = many_leaves_log(alloc, 1, 64).expect(rt, "it failed");
     let log = log.as_slice();

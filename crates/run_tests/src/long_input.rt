@@ -1,11 +1,11 @@
-//! A source that has far more than an input may have.
+//! A source that has far more bytes than an input may have.
 use crate::checks::holds;
 use io_edge::{Source, SourceFault};
 use run_ends::{Refusal, read_judged};
 use std::alloc::Global;
 use std::process::Abort;
 
-// A source that never ends, and counts the bytes that are taken of it.
+// A source that never ends, and counts the bytes that are read from it.
 #[derive(Drop)]
 struct Endless {
     taken: u64,

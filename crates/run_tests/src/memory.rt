@@ -1,7 +1,7 @@
-//! Runs of the program over ends in memory: what each test of the top call begins with.
+//! Runs of the program over ends in memory. Each test of the top call begins with them.
 //!
-//! Here is the one place where tests call `run`. It says nothing of what the run left, so that the proof of a test knows nothing of the
-//! promise that it tries: what a run left is compared while the test runs.
+//! Only here tests call `run`. The function has no clauses, so the proof of a test knows nothing of the promise that it
+//! tries. The test compares what a run left while it runs.
 mod inputs;
 mod left;
 mod logs;

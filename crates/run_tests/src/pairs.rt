@@ -1,4 +1,4 @@
-//! Runs over two files, and what each leaves in both. They leave the first file as it was.
+//! Runs over two files, and what each leaves in both. They leave the first file unchanged.
 use crate::checks::{Case, holds};
 use crate::memory::{Left, run_both};
 use disk_mem::Fail;
@@ -19,7 +19,7 @@ pub struct Pair<'a> {
 }
 
 impl Pair<'_> {
-    // Whether a run has left what it should: of the first file the bytes, and no call that changes or syncs it.
+    // Whether a run has left what it should. The first file has its bytes, and no call changed or synced it.
     fn is_left(&self, left: &Left) -> bool {
         let run = &self.run;
         left.tells(run.status, run.text)

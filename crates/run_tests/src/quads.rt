@@ -1,4 +1,5 @@
-//! The commands over a log whose splits make four children: one that is made, five points that are split, and a point under many splits.
+//! The commands over a log whose splits create four children: one that is created, five points that are split, and a
+//! point under many splits.
 use crate::checks::{CHECK, Case, EMPTY, INIT, PLAY_BY_4, each_is_left, is_left};
 use crate::compacts::{PAIR, RUN};
 use crate::logged::many_leaves_log;
@@ -9,8 +10,8 @@ use std::process::Abort;
 use std::sync::Wait;
 use std::thread::Threads;
 
-// A log of puts 1 to 5 at (0,0), (2147483648,0), (0,2147483648), (2147483648,2147483648) and (1,1), begin 1 of the empty name, and
-// install 1.
+// A log of puts 1 to 5 at (0,0), (2147483648,0), (0,2147483648), (2147483648,2147483648) and (1,1), begin 1 of the
+// empty name, and install 1.
 const FOUR_LEAVES_LOG: &[u8] = b"MDLOCLOG\x02\x02\0\0\0\0\0\0\
     \x01\x01\0\0\0\0\0\0\0\x01\0\0\0\0\0\0\0\0\0\0\0\0\0\0\0\0\0\0\0\0\0\0\
     \x01\x01\0\0\0\0\0\0\0\x02\x80\0\0\0\0\0\0\0\0\0\0\0\0\0\0\0\0\0\0\0\0\0\

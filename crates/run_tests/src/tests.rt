@@ -51,7 +51,7 @@ const SEVERAL: &Case<'static> = &Case {
     ..NO_LOG
 };
 
-// For `?` there may be any place.
+// `?` stands for any place.
 const IN_ORDER: &str = lines!("1,?,done,\n2,?,done,\n3,?,absent,\n4,?,at,3:5:0\n5,?,moved,4:6:0\n");
 
 fn are_but_for_places(lines: &[u8], wanted: &[u8]) -> bool {
@@ -163,7 +163,7 @@ const NO_WORDS_OF_A_COMMAND: &[&[&str]] = &[
     &["play", "--bucket", "4", "-"],
 ];
 
-// Nothing is attached, called or written, and the source, which would fail, isn't read.
+// Nothing is attached, called or written. The source, which would fail, isn't read.
 const UNTOUCHED: &Case<'static> = &Case {
     name: "words that ask for no command, beside a log",
     reads: &[1],

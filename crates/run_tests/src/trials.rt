@@ -18,7 +18,7 @@ const TRIAL: Case<'static> = Case {
     ..NO_LOG
 };
 
-// A log of put 1717 at (3938983765, 2969520912), of moment 60104.
+// A log of put 1717 at (3938983765, 2969520912), with moment 60104.
 const MADE_LOG: &[u8] = b"MDLOCLOG\x02\x01\0\0\0\0\0\0\
     \x01\x01\0\0\0\0\0\0\x06\xb5\xea\xc8\x1f\x55\xb0\xff\x4b\x10\0\0\0\0\0\0\xea\xc8\0\0\0\0\0\0\
     \0";
@@ -39,7 +39,7 @@ const AGAIN: Case<'static> = Case {
     ..OVER
 };
 
-// Seed 2 makes a put of 1717 at (3938983765, 2969520912), of moment 60104, seed 1 a box, and seed 0 a move.
+// Seed 2 gives a put of 1717 at (3938983765, 2969520912), with moment 60104. Seed 1 gives a box, and seed 0 a move.
 const ONE_ROW: &[Case<'static>] = &[
     TRIAL,
     Case {
@@ -84,7 +84,7 @@ fn next(world: World, op: &Op) -> Result<World, Memory> {
     }
 }
 
-// One plain list behind the rows of a seed, in their order.
+// One plain list after the rows of a seed, in their order.
 fn world_of(alloc: Global, rows: u32, seed: u64) -> Result<World, Memory>
     requires { rows ≤ 65536 }
 {
@@ -121,7 +121,7 @@ const LONG_TRIAL: &Case<'static> = &Case {
     ..NO_LOG
 };
 
-// What such a trial is to tell by one plain list.
+// What such a trial is to write, by one plain list.
 fn wanted(alloc: Global) -> Result<String, Memory> {
     let world = world_of(alloc, ROWS, SEED)?;
     Ok(text_of(alloc, ROWS, &world)?)

@@ -1,4 +1,4 @@
-//! `watch` of worked logs: who enters and leaves fences and who is inside them in the end, and what is refused.
+//! `watch` of worked logs: which objects enter and leave fences and which are inside at the end, and the refusals.
 use crate::checks::{Case, EMPTY, each_is_untouched, is_untouched};
 use crate::hostile::records::{BEGIN, DROP, INSTALL, MOVE, PUT, Record, log_of};
 use crate::memory::PUT_LOG;
@@ -22,7 +22,7 @@ macro_rules! crossings {
     };
 }
 
-// A record of an object at a point, whose numbers are given in hexadecimal as one: x and then y.
+// A record of an object at a point. Its coordinates are given in hexadecimal as one number: x and then y.
 macro_rules! object {
     ($kind:expr, $id:expr, $place:expr) => {
         Record {
@@ -53,7 +53,7 @@ struct Watched {
     text: &'static str,
 }
 
-// Put 7 at (3,5), move 7 to (8,8), and drop 7.
+// Put 7 at (3,5), move 7 to (8,8), and remove 7.
 const CROSSING: &[Record] = &[
     object!(PUT, 7, 0x3_0000_0005),
     object!(MOVE, 7, 0x8_0000_0008),
@@ -69,7 +69,7 @@ const BETWEEN_SPLITS: &[Record] = &[
     object!(PUT, 6, 0x64_0000_0064),
 ];
 
-// Along x: 10, 11, 20, 21, the last number but one, the last one; and back to 11. Then along y.
+// Along x: 10, 11, 20, 21, the last number but one, the last one, and back to 11. Then along y.
 const ALONG_EDGES: &[Record] = &[
     object!(PUT, 7, 0xA_0000_000A),
     object!(MOVE, 7, 0xB_0000_000A),
@@ -188,7 +188,7 @@ fn many_fences(alloc: Global, count: u32) -> Result<String, AllocError> {
     Ok(fences)
 }
 
-// Lines of 256 fences, each of which begins so.
+// Lines of 256 fences, each of which begins with `front`.
 fn add_lines(alloc: Global, text: &mut String, front: &str) -> Result<(), AllocError> {
     for fence in 1..=256 {
         let line = format!(in alloc; "{front},{fence}\n")?;
@@ -214,7 +214,7 @@ fn crosses_256_at_once<R: Abort + Threads + Wait + Sync>(rt: &R, alloc: Global) 
     is_untouched(rt, alloc, &case);
 }
 
-// A record behind the 256th fence is one too many, whatever it holds.
+// A record after the 256th fence is one too many, whatever it holds.
 fn has_no_room_for_257<R: Abort + Threads + Wait + Sync>(rt: &R, alloc: Global) {
     let mut fences = many_fences(alloc, 256).expect(rt, "it failed");
     fences.push_str("1,no number\n").expect(rt, "it failed");
@@ -231,7 +231,7 @@ fn an_object_crosses_256_fences_at_once_and_there_are_no_more(rt: HostRuntime) {
     has_no_room_for_257(&rt, rt.alloc());
 }
 
-// So many cells: put 7 at (3,5), and moves of it to (8,8) and back by turns. Each is one event of each of many fences.
+// So many cells: put 7 at (3,5), and then moves of it to (8,8) and back. Each is one event of each of many fences.
 fn there_and_back(alloc: Global, cells: u32) -> Result<Vec<u8>, AllocError> {
     let mut log = log_of(alloc, 1, &[object!(PUT, 7, 0x3_0000_0005)], &[])?;
     for cell in 1..cells {
@@ -280,7 +280,7 @@ fn watch_takes_4194304_events_and_no_more(rt: HostRuntime) {
     has_a_limit(&rt, rt.alloc());
 }
 
-// A log of put 7 at (3,5), and a cell of kind 9 behind it.
+// A log of put 7 at (3,5), and a cell of kind 9 after it.
 const DAMAGED_LOG: &[u8] = b"MDLOCLOG\x02\x01\0\0\0\0\0\0\
     \x01\x01\0\0\0\0\0\0\0\x07\0\0\0\x03\0\0\0\x05\0\0\0\0\0\0\0\0\0\0\0\0\0\0\
     \x01\x09\0\0\0\0\0\0\0\x07\0\0\0\0\0\0\0\0\0\0\0\0\0\0\0\0\0\0\0\0\0\0\
@@ -374,7 +374,7 @@ fn watch_of_a_log_or_a_drive_at_fault_writes_its_line_alone(rt: HostRuntime) {
     each_is_untouched(&rt, rt.alloc(), ENDS);
 }
 
-// Fences at fault, beside a file that is no log and isn't attached.
+// Faulty fences, with a file that is no log and isn't attached.
 const UNREAD: Case<'static> = Case {
     name: "watch with a source that fails",
     reads: &[1],
@@ -395,7 +395,7 @@ const NO_HEADER: Case<'static> = Case {
     ..UNREAD
 };
 
-// Fences at fault, and their line.
+// Faulty fences, and their line.
 const AT_FAULT: &[(&str, &str)] = &[
     ("", "refused header\n"),
     ("fence,x,y,a\n", "refused header\n"),

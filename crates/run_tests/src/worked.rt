@@ -6,7 +6,7 @@ use std::process::Abort;
 use std::sync::Wait;
 use std::thread::Threads;
 
-// A log of put 7 at (3,5), move 7 to (4,5) and drop 7.
+// A log of put 7 at (3,5), move 7 to (4,5) and remove 7.
 const CHANGED_LOG: &[u8] = b"MDLOCLOG\x02\x01\0\0\0\0\0\0\
     \x01\x01\0\0\0\0\0\0\0\x07\0\0\0\x03\0\0\0\x05\0\0\0\0\0\0\0\0\0\0\0\0\0\0\
     \x01\x02\0\0\0\0\0\0\0\x07\0\0\0\x04\0\0\0\x05\0\0\0\0\0\0\0\0\0\0\0\0\0\0\
@@ -31,7 +31,7 @@ const SPLIT_LOG: &[u8] = b"MDLOCLOG\x02\x01\0\0\0\0\0\0\
     \x01\x01\0\0\0\0\0\0\0\x06\0\0\0\x02\0\0\0\x02\0\0\0\0\0\0\0\0\0\0\0\0\0\0\
     \0";
 
-// Ties go to the lesser id, a box has both its corners, and a change tells where the object was.
+// Ties go to the lesser id, a box has both its corners, and a change returns where the object was.
 const ROWS: &[Case<'static>] = &[
     Case {
         name: "the nearest of two that are as near",
@@ -113,7 +113,7 @@ fn playing(input: &str) -> Case<'_> {
     }
 }
 
-// Fails unless the lines of so many puts and this query end in this.
+// Fails unless the lines of so many puts and this query end in this text.
 fn ends_in<R: Abort + Threads + Wait + Sync>(
     rt: &R,
     alloc: Global,
@@ -147,18 +147,18 @@ fn a_box_lists_2048_points_and_counts_2049(rt: HostRuntime) {
     lists_and_counts(&rt, rt.alloc());
 }
 
-// The first 48 bytes of a log of put 7 at (3,5), and 41 bytes behind them that no log needs.
+// The first 48 bytes of a log of put 7 at (3,5), and 41 bytes after them that no log needs.
 const TORN_LOG: &[u8] = b"MDLOCLOG\x02\x01\0\0\0\0\0\0\
     \x01\x01\0\0\0\0\0\0\0\x07\0\0\0\x03\0\0\0\x05\0\0\0\0\0\0\0\0\0\0\0\0\0\0\
     MMMMMMMMMMMMMMMMMMMMMMMMMMMMMMMMMMMMMMMMM";
 
-// A log of put 7 at (3,5) and move 7 to (4,5), both of moment 10.
+// A log of put 7 at (3,5) and move 7 to (4,5), both with moment 10.
 const MOVED_LOG: &[u8] = b"MDLOCLOG\x02\x01\0\0\0\0\0\0\
     \x01\x01\0\0\0\0\0\0\0\x07\0\0\0\x03\0\0\0\x05\0\0\0\0\0\0\0\x0a\0\0\0\0\0\0\
     \x01\x02\0\0\0\0\0\0\0\x07\0\0\0\x04\0\0\0\x05\0\0\0\0\0\0\0\x0a\0\0\0\0\0\0\
     \0";
 
-// The same, drop 7, put 7 at (8,8), of moment 3, and move 7 to (8,8), of the last moment.
+// The same, remove 7, put 7 at (8,8), with moment 3, and move 7 to (8,8), with the last moment.
 const MOVED_ON_LOG: &[u8] = b"MDLOCLOG\x02\x01\0\0\0\0\0\0\
     \x01\x01\0\0\0\0\0\0\0\x07\0\0\0\x03\0\0\0\x05\0\0\0\0\0\0\0\x0a\0\0\0\0\0\0\
     \x01\x02\0\0\0\0\0\0\0\x07\0\0\0\x04\0\0\0\x05\0\0\0\0\0\0\0\x0a\0\0\0\0\0\0\
@@ -167,7 +167,7 @@ const MOVED_ON_LOG: &[u8] = b"MDLOCLOG\x02\x01\0\0\0\0\0\0\
     \x01\x02\0\0\0\0\0\0\0\x07\0\0\0\x08\0\0\0\x08\xff\xff\xff\xff\xff\xff\xff\xff\0\0\0\0\0\0\
     \0";
 
-// A late move, and one of an equal moment.
+// A late move, and one with an equal moment.
 const LATE: Case<'static> = Case {
     name: "a late move",
     input: rows!("1,put,7,3,5,,,10\n1,move,7,4,5,,,9\n1,move,7,4,5,,,10\n1,where,7,,,,,\n"),

@@ -1,4 +1,4 @@
-//! Changes of which the number tells all: so the objects tell how many there were.
+//! Changes that their numbers determine. So the objects show how many changes there were.
 ghost use Rattle.store_client.specs.Caller.{Keeps};
 
 use crate::dice::Dice;
@@ -23,16 +23,16 @@ pub enum Broken {
     Told { number: u64 },
 }
 
-/// A thread of changes to objects of its own, one after the other and again from the first one on. Before its first one it looks how many
-/// are there.
+/// A thread that changes objects of its own, one after the other and then again from the first one on. Before its first
+/// change it finds out how many changes were made.
 #[derive(Drop)]
 pub struct Chain {
     plan: Plan,
     pub session: u8,
     has_looked: bool,
-    /// How many changes are there.
+    /// How many changes were made.
     pub done: u64,
-    /// How many it is still to make.
+    /// How many changes it is still to make.
     pub left: u64,
     pub broken: Option<Broken>,
 }
@@ -57,7 +57,7 @@ impl Chain {
             .saturating_add(u64::from(self.session))
     }
 
-    // Where a change brings its object, and when.
+    // Where a change moves its object, and when.
     fn stamp(&self, number: u64) -> Stamped {
         let mut dice = Dice::new(self.plan.seed.wrapping_add(number), self.session);
         Stamped {
@@ -66,7 +66,7 @@ impl Chain {
         }
     }
 
-    // Where the last change to its object before this one has left that.
+    // Where the last change of the same object before this one has left it.
     fn before(&self, number: u64) -> Option<Stamped> {
         match number.checked_sub(self.plan.own()) {
             Some(last) if last > 0 => Some(self.stamp(last)),
@@ -74,7 +74,7 @@ impl Chain {
         }
     }
 
-    // Whether a change was told so.
+    // Whether this is the expected answer to a change.
     fn is_told(&self, number: u64, told: &Report) -> bool {
         match self.before(number) {
             Some(from) => *told == Report::From(from),
@@ -119,7 +119,7 @@ impl Chain {
         Ok(latest)
     }
 
-    // Whether the object of a change is just where that would come upon it, or isn't there if it would be new.
+    // Whether the object of a change is exactly where that change would find it, or isn't there if it would be new.
     fn is_ready<I: Index, D: LogDisk, O: Start, R: Wait>(
         &self,
         rt: &R,
@@ -135,7 +135,7 @@ impl Chain {
         }
     }
 
-    // How many changes are there. Its objects must be just where so many leave them.
+    // How many changes were made. The objects must be exactly where that many changes leave them.
     fn find<I: Index, D: LogDisk, O: Start, R: Wait>(
         &self,
         rt: &R,
@@ -155,7 +155,7 @@ impl Chain {
         Ok(done)
     }
 
-    // Goes on from what it finds.
+    // Continues from what it finds.
     fn look<I: Index, D: LogDisk, O: Start, R: Wait>(
         &mut self,
         rt: &R,

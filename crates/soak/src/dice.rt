@@ -3,14 +3,14 @@ ghost use Rattle.std.specs.Prelude.{◌<◌};
 
 use zorder::Point;
 
-/// A generator of numbers: `splitmix64`, by which each thread has its own.
+/// A generator of numbers: `splitmix64`. Each thread has its own.
 #[derive(Clone, Copy)]
 pub struct Dice {
     state: u64,
 }
 
 impl Dice {
-    /// The dice of one of those who share a seed.
+    /// The generator of one thread among those that share a seed.
     pub fn new(seed: u64, player: u8) -> Dice {
         let far = u64::from(player).wrapping_mul(0xd1b5_4a32_d192_ed03);
         Dice {
@@ -39,7 +39,7 @@ impl Dice {
         (self.next() >> 32) as u32
     }
 
-    /// A place: one in eight is in a small corner, where leaves are split again and again.
+    /// A position. One in eight is in a small corner, where leaves are split again and again.
     pub fn place(&mut self) -> Point {
         let small = if self.below(8) == 0 { 8 } else { 0 };
         Point {

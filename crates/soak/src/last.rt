@@ -1,4 +1,4 @@
-//! All objects, in the end.
+//! All objects, at the end.
 ghost use Rattle.store_client.specs.Caller.{Keeps};
 
 use crate::judge::Judge;
@@ -11,7 +11,7 @@ use std::sync::Wait;
 use store_client::{Client, Listed};
 use zorder::{Placed, Point, Region};
 
-// All places.
+// All positions.
 const ALL: Region = Region {
     lo: Point { x: 0, y: 0 },
     hi: Point {
@@ -20,7 +20,7 @@ const ALL: Region = Region {
     },
 };
 
-/// Asks how many objects there are, and looks for each by its id and by a box of its place: so there are no others.
+/// Reads how many objects there are, and looks up each by its id and by a box of its position. So there are no others.
 pub fn look_at_all<I: Index, D: LogDisk, O: Start, R: Wait>(
     rt: &R,
     client: &mut Client<'_, I, D, O>,
@@ -45,7 +45,7 @@ pub fn look_at_all<I: Index, D: LogDisk, O: Start, R: Wait>(
     Ok(())
 }
 
-/// Whether an object is found by its id and by its place.
+/// Whether an object is found by its id and by its position.
 pub fn is_there<I: Index, D: LogDisk, O: Start, R: Wait>(
     rt: &R,
     client: &mut Client<'_, I, D, O>,

@@ -1,25 +1,28 @@
-//! Runs a store for long, in memory or over two files, and judges it.
+//! Runs a store for long, in memory or over two files, and checks its answers.
 //!
-//! `soak CALLS THREADS OBJECTS SEED ENTRIES [quiet | files ONE TWO | chain ONE TWO | turns [ONE TWO]]`: so many calls (20,000,000), made by
-//! so many threads (4 at most) on so many objects (100,000): puts, moves, late ones among them, drops, finds, boxes and nears, as the seed
-//! has it. Where a history has so many entries (3,900,000) the threads meet, and the store is renewed: it goes on with an empty one. Each
-//! history is then gone along: a plain map of this program takes the changes, and what a thread was told by each call must be what the map
-//! answers there.
-//! All objects are gone through for a box or a near, so where there are n, one in n / 100 of these is looked at. In the end all objects are
-//! looked for. A difference is told, and the run ends with 1.
+//! `soak CALLS THREADS OBJECTS SEED ENTRIES [quiet | files ONE TWO | chain ONE TWO | turns [ONE TWO]]`: the run makes
+//! CALLS calls (by default 20,000,000) in THREADS threads (at most 4) on OBJECTS objects (by default 100,000). The
+//! calls are puts, moves (some of them late), removals, finds, boxes and nears, as the seed decides. When a history has
+//! ENTRIES entries (by default 3,900,000), the threads meet and the store is renewed: it continues with an empty
+//! history. Each history is then checked. A plain map of this program makes the changes, and each answer of a call must
+//! be the answer of the map at that place.
 //!
-//! With `files` the store has a log in one of these two files, which must have no objects. Where it would be renewed it is rotated: it
-//! goes on over a fresh log in the other one, each second time with leaves anew. It prints each renewal or rotation with its time, how
-//! many boxes and nears were looked at, and how many objects there are in the end; with `quiet` only what the schedule
-//! doesn't change.
+//! A check of a box or a near goes over all objects. So if there are n objects, it checks one in n / 100 of these
+//! queries. At the end it looks up all objects. A difference is reported, and the run ends with status 1.
 //!
-//! With `chain` it goes on with what it finds in these files. Each thread brings objects of its own in turn to new places, and the number
-//! of a change tells all of it: so the objects must be just where so many first changes of each thread leave them. It prints how many it
-//! found and, behind each ENTRIES changes or so, how many were made, and then it is rotated; who kills it learns from the next start what
-//! is there. `tools/soak` drives it.
+//! With `files` the store has a log in one of these two files, which must have no objects. Instead of a renewal the
+//! store is rotated: it continues over a fresh log in the other file. Each second rotation builds new leaves. The run
+//! prints each renewal or rotation with its time, how many boxes and nears were checked, and how many objects there are
+//! at the end. With `quiet` it prints only what doesn't depend on the schedule.
 //!
-//! With `turns` it puts OBJECTS objects, and is then renewed CALLS times, with the time of each; or with two files it goes on in the other
-//! one, each second time with leaves anew.
+//! With `chain` the run continues with what it finds in these files. Each thread moves objects of its own to new
+//! positions, one after the other. The number of a change determines the change. So the objects must be exactly where a
+//! number of first changes of each thread leaves them. The run prints how many changes it found. After about ENTRIES
+//! changes it prints how many were made, and rotates the store. If you kill the run, the next start reports what is
+//! there. `tools/soak` drives it.
+//!
+//! With `turns` the run puts OBJECTS objects, and then renews the store CALLS times, with the time of each renewal.
+//! With two files it rotates the store instead, and each second rotation builds new leaves.
 #![tactic(auto)]
 
 ghost use Rattle.std.specs.Prelude.{◌≤◌, IfOk};
@@ -78,7 +81,7 @@ type MemoryStore = (
     SoakPass<KdTrie, MemDisk, Brand>,
 );
 
-// What the words ask for.
+// The plan that the words describe.
 fn plan_of(words: &mut Args) -> Plan {
     Plan {
         calls: number(words.next(), 20_000_000, u64::MAX),
@@ -89,7 +92,7 @@ fn plan_of(words: &mut Args) -> Plan {
     }
 }
 
-// What a run is over, and what it tells.
+// What a run is over, and what it prints.
 #[derive(Clone, Copy, PartialEq, Eq)]
 enum Mode {
     Memory,
@@ -100,7 +103,7 @@ enum Mode {
 }
 
 impl Mode {
-    // Whether it runs in memory: of turns, where no file is named.
+    // Whether it runs in memory. For `turns` this is so if no file is named.
     fn is_in_memory(self, has_files: bool) -> bool {
         match self {
             Mode::Memory | Mode::Quiet => true,
@@ -163,7 +166,8 @@ fn open_files<'n, D: LogDisk>(
     opened.map_err(|refused| Trouble::Open(refused.cause))
 }
 
-// Runs over a store in one of two files: a chain goes on from the objects that are there, and else there must be none.
+// Runs over a store in one of two files. A chain continues from the objects that are there. Otherwise there must be
+// none.
 fn play_in_files<R: Threads + Wait + Sync + AllocGlobal + Clock + Print, D: LogDisk + Send>(
     rt: &R,
     plan: Plan,
@@ -197,7 +201,7 @@ fn play_in_files<R: Threads + Wait + Sync + AllocGlobal + Clock + Print, D: LogD
     Ok(Some(play_over_files(rt, alloc, store, pass, spare, plan)?))
 }
 
-// A run's calls, judged, where it isn't one of chains or turns.
+// The calls of a run that isn't one of chains or turns, and the check of them.
 fn play_as<R: Threads + Wait + Sync + AllocGlobal + Clock + Print, D: LogDisk + Send>(
     rt: &R,
     plan: Plan,

@@ -4,17 +4,17 @@ ghost use Rattle.std.specs.Prelude.{◌<◌};
 use plain_list::Op;
 use store_client::MOST_EVENTS;
 
-/// How much is asked, and by how many.
+/// How many calls there are, and how many threads make them.
 #[derive(Clone, Copy)]
 pub struct Plan {
-    /// How many calls there are in all.
+    /// The number of all calls.
     pub calls: u64,
-    /// How many threads make them.
+    /// The number of threads that make them.
     pub threads: u8,
     /// How many objects there may be.
     pub objects: u32,
     pub seed: u64,
-    /// How many entries a history gets, about, before the store goes on with another one.
+    /// About how many entries a history gets before the store continues with another one.
     pub entries: u64,
 }
 
@@ -40,12 +40,12 @@ impl Plan {
         (self.entries / u64::from(self.threads.max(1))).max(1)
     }
 
-    /// Whether a history has so many entries that the threads are to meet, where this is the room that is left.
+    /// Whether a history has so many entries that the threads are to meet. `room` is the room that is left.
     pub fn is_over(&self, room: u64) -> bool {
         MOST_EVENTS.saturating_sub(room) >= self.entries
     }
 
-    /// Whether what a call is told is looked at, by its place in the history.
+    /// Whether the answer of a call is checked, by its place in the history.
     pub fn looks_at(&self, op: &Op, place: u64) -> bool {
         match op {
             Op::Within { .. } | Op::Near { .. } => {

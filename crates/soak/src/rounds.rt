@@ -1,4 +1,4 @@
-//! The rounds of chains over two files: behind each the store goes on in the other one.
+//! The rounds of chains over two files. After each round the store continues in the other file.
 ghost use Rattle.std.specs.Prelude.{◌≡◌, IfSome, vec_len};
 ghost use Rattle.soak.specs.Whole.{IsWhole};
 
@@ -15,7 +15,7 @@ use std::sync::Wait;
 use std::thread::Threads;
 use store_file::{OverFile, Rotated};
 
-// The chains of four threads, where there is memory for them.
+// The chains of four threads, if there is memory for them.
 fn chains_of(alloc: Global, plan: Plan) -> Option<Vec<Chain>>
     ensures { IfSome result (λ all. vec_len all ≡ 4) }
 {
@@ -28,8 +28,9 @@ fn chains_of(alloc: Global, plan: Plan) -> Option<Vec<Chain>>
     Vec::from_array(alloc, chains).ok()
 }
 
-/// Looks whether a store in one of two files has what so many changes of each chain leave, and no more, and makes further ones: behind
-/// each round it goes on in the other file. What was found and what was done is told at once.
+/// Checks whether a store in one of two files has what the first changes of each chain leave, and nothing else. Then
+/// makes further changes, and after each round continues in the other file. Prints at once what was found and what was
+/// done.
 pub fn chain_over_files<I: Index + Send, D: LogDisk + Send, R: Threads + Wait + Sync + Print>(
     rt: &R,
     alloc: Global,
@@ -65,7 +66,7 @@ pub fn chain_over_files<I: Index + Send, D: LogDisk + Send, R: Threads + Wait + 
     Ok(())
 }
 
-// Tells how many changes were found, where there are no other objects.
+// Prints how many changes were found, if there are no other objects.
 fn look_first(rt: &impl Print, crew: &Option<Vec<Chain>>, points: u64) -> Result<bool, Trouble> {
     let done = look(rt, "found", crew)?;
     let should = objects_of(crew);
@@ -88,7 +89,7 @@ fn objects_of(crew: &Option<Vec<Chain>>) -> u64 {
     each.fold(0u64, |sum, more| sum.saturating_add(more))
 }
 
-// Tells how many changes there are, and whether all were made, where nothing is wrong.
+// Prints how many changes were made, and returns whether all were made, if nothing is wrong.
 fn look(rt: &impl Print, what: &str, crew: &Option<Vec<Chain>>) -> Result<bool, Trouble> {
     let Some(chains) = crew else {
         return Err(Trouble::Memory);

@@ -1,4 +1,4 @@
-//! Rounds of calls: all threads at once, and then the store goes on with an empty history.
+//! Rounds of calls: all threads at once, and then the store continues with an empty history.
 ghost use Rattle.std.specs.Prelude.{◌≡◌, IfOk, IfSome, vec_len};
 ghost use Rattle.soak.specs.Whole.{IsWhole};
 
@@ -25,7 +25,7 @@ use store_file::{NotRotated, OverFile, Rotated, rotate_anew, rotate_store};
 /// A pass of the store, over any index, and any drive for a log.
 pub type SoakPass<I, D, O> = Pass<SharedBook<I, D, O>>;
 
-/// The leaves that a store goes on with in the other file.
+/// The leaves with which a store continues in the other file.
 #[derive(Clone, Copy)]
 pub enum Leaves {
     Kept,
@@ -33,7 +33,7 @@ pub enum Leaves {
 }
 
 impl Leaves {
-    /// Those of a rotation: anew each second time.
+    /// The leaves of a rotation: new ones each second time.
     pub fn of_turn(turn: u64) -> Leaves {
         if turn % 2 == 0 {
             Leaves::Kept
@@ -42,7 +42,7 @@ impl Leaves {
         }
     }
 
-    // What is said of them where a rotation is told.
+    // The words for them in the line of a rotation.
     fn word(self) -> &'static str {
         match self {
             Leaves::Kept => "",
@@ -51,10 +51,10 @@ impl Leaves {
     }
 }
 
-/// The session of who hires the threads, and looks at all objects.
+/// The session of the thread that starts the others, and looks up all objects.
 pub const LAST: u8 = 4;
 
-// The threads, before their calls, where there is memory for them.
+// The threads, before their calls, if there is memory for them.
 fn crew_of(alloc: Global, plan: Plan) -> Option<Vec<Soaker>>
     ensures { IfSome result (λ all. vec_len all ≡ 4) }
 {
@@ -67,7 +67,8 @@ fn crew_of(alloc: Global, plan: Plan) -> Option<Vec<Soaker>>
     Vec::from_array(alloc, crew).ok()
 }
 
-/// All calls of a run over an empty store in memory, and then a look at all objects. Tells each renewal of the store, if so wanted.
+/// All calls of a run over an empty store in memory, and then a look at all objects. Prints each renewal of the store,
+/// if the plan says so.
 pub fn play<I: Index + Send, D: LogDisk + Send, R: Threads + Wait + Sync + Clock + Print>(
     rt: &R,
     alloc: Global,
@@ -99,7 +100,7 @@ pub fn play<I: Index + Send, D: LogDisk + Send, R: Threads + Wait + Sync + Clock
     Ok(judge)
 }
 
-/// The same over an empty store in one of two files: it goes on in the other one each time, which is told.
+/// The same over an empty store in one of two files. It continues in the other file each time, and that is printed.
 pub fn play_over_files<
     I: Index + Send,
     D: LogDisk + Send,
@@ -137,7 +138,7 @@ pub fn play_over_files<
     Ok(judge)
 }
 
-// Tells how long it took to renew or to rotate a store whose history had so many entries.
+// Prints how long it took to renew or to rotate a store whose history had `entries` entries.
 fn tell_turn(rt: &(impl Clock + Print), begun: Option<Instant>, entries: usize, leaves: &str) {
     if let Some(took) = begun.and_then(|begun| begun.elapsed(rt).ok()) {
         let micros = took.as_micros();
@@ -145,7 +146,7 @@ fn tell_turn(rt: &(impl Clock + Print), begun: Option<Instant>, entries: usize, 
     }
 }
 
-// Looks at a history that has ended, and tells whether all calls were made.
+// Checks a history that has ended, and returns whether all calls were made.
 fn look(
     alloc: Global,
     judge: &mut Judge,
@@ -163,13 +164,13 @@ fn look(
     }
     judge.judge(entries, crew)?;
     for soaker in crew.iter_mut() {
-        // The room of a long round isn't kept for the next one.
+        // The memory of a long round isn't kept for the next one.
         soaker.replies = Vec::new(alloc);
     }
     Ok(crew.iter().all(|soaker| soaker.left == 0))
 }
 
-// Looks at all objects, where nothing is wrong so far, and closes the store.
+// Looks up all objects, if nothing is wrong so far, and closes the store.
 fn end<I: Index, D: LogDisk, O: Start, R: Wait>(
     rt: &R,
     alloc: Global,
@@ -190,7 +191,7 @@ fn end<I: Index, D: LogDisk, O: Start, R: Wait>(
     told
 }
 
-/// The same store with an empty history, and the same objects. Tells how long that took, if so wanted.
+/// The same store with an empty history, and the same objects. Prints how long that took, if the caller wants it.
 pub fn renew<I: Index, D: LogDisk, R: Clock + Print>(
     rt: &R,
     alloc: Global,
@@ -214,7 +215,7 @@ pub fn renew<I: Index, D: LogDisk, R: Clock + Print>(
     }
 }
 
-/// The same objects over a fresh log in the other file, and how long that took, which is told.
+/// The same objects over a fresh log in the other file. Prints how long that took.
 pub fn rotate_and_tell<I: Index, D: LogDisk, R: Clock + Print>(
     rt: &R,
     alloc: Global,
@@ -254,7 +255,7 @@ pub fn rotate<I: Index, D: LogDisk>(
     }
 }
 
-// Why a store wasn't rotated, or was and doesn't go on.
+// Why a store wasn't rotated, or was rotated but doesn't continue.
 fn why_not<I: Index, D: LogDisk>(refused: &NotRotated<I, D>) -> Trouble {
     match refused {
         NotRotated::Kept { cause, .. } => Trouble::NotRotated(*cause),
@@ -264,7 +265,7 @@ fn why_not<I: Index, D: LogDisk>(refused: &NotRotated<I, D>) -> Trouble {
     }
 }
 
-/// All threads at once, until each has done its work. Where there is no memory for it, no crew comes back.
+/// All threads at once, until each has done its work. If memory runs out, no crew comes back.
 pub fn play_round<
     I: Index + Send,
     D: LogDisk + Send,

@@ -14,17 +14,18 @@ use std::sync::Wait;
 use store_client::{Client, Work};
 use zorder::{Point, Region};
 
-// How many calls a thread makes from one look at the room to the next.
+// How many calls a thread makes before it looks at the room again.
 const LOOK: u64 = 64;
 
-/// What a thread was told by a call, where that is looked at, and where the call stands among those of the history, from 1.
+/// The answer that a thread had for a call, if it is checked, and the place of the call among those of the history,
+/// from 1.
 #[derive(Drop)]
 pub struct Noted {
     pub place: u64,
     pub answer: Option<Answer>,
 }
 
-/// A thread of calls by the dice, and what it was told since the history began.
+/// A thread of drawn calls, and its answers since the history began.
 #[derive(Drop)]
 pub struct Soaker {
     dice: Dice,
@@ -52,8 +53,8 @@ impl Soaker {
         }
     }
 
-    // A box around the last place: it has some dozens of objects where these are spread over all places, and one dozen in the small
-    // corner. One in 64 is large.
+    // A box around the last position. It has some dozens of objects if these are spread over all positions, and one
+    // dozen in the small corner. One box in 64 is large.
     fn region(&mut self) -> Region
         ensures { IsBox result }
     {
@@ -79,8 +80,8 @@ impl Soaker {
         }
     }
 
-    // Of a hundred calls 12 put an object, 55 move one, 4 drop one, 14 look for one, and 8 and 7 ask for a box and for the nearest. One
-    // put or move in twelve comes late.
+    // Of a hundred calls 12 put an object, 55 move one, 4 remove one and 14 look one up. 8 are box queries and 7 are
+    // nearest-neighbour queries. One put or move in twelve comes late.
     fn next_op(&mut self) -> Op
         ensures { IsValid result }
     {

@@ -1,4 +1,4 @@
-//! A full store that is renewed, or goes from one file to the other and back, to see how long that takes.
+//! A full store that is renewed, or goes from one file to the other and back, to measure how long that takes.
 ghost use Rattle.soak.specs.Whole.{IsWhole};
 ghost use Rattle.store_client.specs.Caller.{Keeps};
 
@@ -17,7 +17,7 @@ use std::sync::Wait;
 use store_client::Client;
 use store_file::{OverFile, Rotated};
 
-// Puts all objects into an empty store, by ids as if by chance.
+// Puts all objects into an empty store, with ids that look random.
 fn fill<I: Index, D: LogDisk, O: Start, R: Wait>(
     rt: &R,
     client: &mut Client<'_, I, D, O>,
@@ -27,14 +27,14 @@ fn fill<I: Index, D: LogDisk, O: Start, R: Wait>(
 {
     let mut dice = Dice::new(plan.seed, LAST);
     for number in 0..u64::from(plan.objects) {
-        // An odd factor: no id comes twice.
+        // An odd factor, so no id comes twice.
         let id = number.wrapping_mul(0x9e37_79b9_7f4a_7c15);
         client.put(rt, id, dice.place(), 0)?;
     }
     Ok(())
 }
 
-/// Fills an empty store in memory, and renews it for so many times as there are calls, which is told.
+/// Fills an empty store in memory, and renews it `plan.calls` times. Prints each renewal.
 pub fn turn_in_memory<I: Index, D: LogDisk, R: Wait + Clock + Print>(
     rt: &R,
     alloc: Global,
@@ -63,7 +63,7 @@ pub fn turn_in_memory<I: Index, D: LogDisk, R: Wait + Clock + Print>(
     Ok(filled?)
 }
 
-/// Fills an empty store in one of two files, and goes on in the other one for so many times as there are calls, which is told.
+/// Fills an empty store in one of two files, and rotates it `plan.calls` times. Prints each rotation.
 pub fn turn_over_files<I: Index, D: LogDisk, R: Wait + Clock + Print>(
     rt: &R,
     alloc: Global,

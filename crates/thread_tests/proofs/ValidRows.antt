@@ -1,4 +1,4 @@
--- Rows that may be asked, one by one.
+-- Rows that are valid, one by one.
 use Rattle.std.proofs.Common.{ℕ, zero, suc, ◌<◌, List, [], ◌∷◌, length, arith}
 use Rattle.std.specs.Prelude.{slice_index_or}
 use Rattle.plain_list.specs.declared.ops.Op.{Op}

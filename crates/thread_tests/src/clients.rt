@@ -1,5 +1,5 @@
-//! A client's verbs: each answer that they may have, but that the world is full; what a call has changed, its place, and what one client
-//! learns from another.
+//! A client's verbs: each answer that they may have, except that the world is full; what a call has changed, its place,
+//! and what one client learns from another.
 ghost use Rattle.std.specs.Prelude.{◌≡◌};
 ghost use Rattle.plain_list.specs.Answer.{IsValid};
 ghost use Rattle.store_client.specs.Caller.{Keeps};
@@ -23,7 +23,7 @@ const HERE: Point = Point { x: 5, y: 5 };
 
 const THERE: Point = Point { x: 8, y: 9 };
 
-// A position of an object, here or there, and its moment.
+// A position of an object, at one point or the other, and its moment.
 macro_rules! here {
     ($moment:expr) => {
         Stamped {
@@ -42,7 +42,8 @@ macro_rules! there {
     };
 }
 
-// An object is new, and comes from here; a report that is late leaves it there, and one of its own moment isn't late.
+// An object is new, and was at one point before. A late report leaves it there, and a report with an equal moment isn't
+// late.
 const REPORTED: [Option<Report>; 4] = [
     Some(Report::New),
     Some(Report::From(here!(10))),
@@ -65,7 +66,7 @@ fn reports<I: Index, D: LogDisk, R: Wait>(
     ]
 }
 
-// The first report has two entries, a move and a put, and each other one a move.
+// The first report has two entries, a move and a put. Each other one has a move.
 fn is_told_of_reports<I: Index, D: LogDisk, R: Wait + Abort>(rt: &R, alloc: Global) {
     let (store, pass) = new_store::<I, D>(rt, alloc);
     let mut client = Client::new(&store, alloc, pass, 7);
@@ -149,7 +150,7 @@ fn is_told_of_an_object<I: Index, D: LogDisk, R: Wait + Abort>(rt: &R, alloc: Gl
     assert_same!(rt; events, 9);
 }
 
-// A client's own calls: what each has changed. Those between change nothing, and have places, too.
+// A client's own calls, with the change of each. The calls in between change nothing, but have places too.
 const CHANGED: [Option<Change>; 6] = [
     Some(Change {
         place: 1,
@@ -228,7 +229,7 @@ fn tells_its_changes<I: Index, D: LogDisk, R: Wait + Abort>(rt: &R, alloc: Globa
     assert_same!(rt; told, CHANGED);
 }
 
-// None before the first call; a report of a new object has two, and tells the place of its put.
+// 0 before the first call. A report of a new object has two entries, and returns the place of its put.
 const PLACES: [u64; 4] = [0, 2, 3, 4];
 
 fn places<I: Index, D: LogDisk, R: Wait>(rt: &R, client: &mut Client<'_, I, D, Brand>) -> [u64; 4]
@@ -252,7 +253,7 @@ fn tells_its_places<I: Index, D: LogDisk, R: Wait + Abort>(rt: &R, alloc: Global
     assert_same!(rt; told, PLACES);
 }
 
-// What one client put, another one finds that has learned from it.
+// What one client put, another one finds after it has learned from the first.
 fn learns_what_another_put<I: Index, D: LogDisk, R: Wait + Abort>(rt: &R, alloc: Global) {
     let (store, pass) = new_store::<I, D>(rt, alloc);
     let mut one = Client::new(&store, alloc, pass, 1);
@@ -266,7 +267,7 @@ fn learns_what_another_put<I: Index, D: LogDisk, R: Wait + Abort>(rt: &R, alloc:
     assert_same!(rt; found, Some(Some(here!(3))));
 }
 
-// How many objects are put in a row, one more than a list has room for.
+// How many objects are put in a row: one more than a list has room for.
 const MANY: u32 = 2_049;
 
 fn put_many<I: Index, D: LogDisk, R: Wait>(rt: &R, client: &mut Client<'_, I, D, Brand>)
@@ -316,7 +317,7 @@ fn are_so_many(told: &Option<PlacedList>, number: usize) -> bool {
     matches!(told, Some(list) if list.as_slice().len() == number)
 }
 
-// What is told of boxes.
+// The answers to box queries.
 fn boxes<I: Index, D: LogDisk, R: Wait>(
     rt: &R,
     client: &mut Client<'_, I, D, Brand>,
@@ -327,7 +328,7 @@ fn boxes<I: Index, D: LogDisk, R: Wait>(
     (client.within(rt, ALL).ok(), client.within(rt, BUT_ONE).ok())
 }
 
-// The nearest two, and as many as may be asked for.
+// The nearest two, and as many as a query may name.
 fn nears<I: Index, D: LogDisk, R: Wait>(
     rt: &R,
     client: &mut Client<'_, I, D, Brand>,

@@ -11,24 +11,24 @@ use std::thread::Threads;
 
 const SESSIONS: u32 = 16;
 
-// How many of a session's rows, its first, put ids that nobody else has.
+// How many of a session's rows, its first ones, put ids that no other session has.
 const PUTS: u32 = 100;
 
-// How far a box reaches on each axis: a few points are in it, so the output of 64,000 rows has a few million bytes.
+// How far a box reaches on each axis. A few points are in it, so the output of 64,000 rows has a few million bytes.
 const REACH: u32 = 200_000_000;
 
-// A coordinate that depends on a number as if by chance.
+// A coordinate that depends on a number and looks random.
 fn spread(number: u32) -> u32 {
     number.wrapping_mul(2_654_435_769)
 }
 
-// As far from a coordinate as a box reaches.
+// The coordinate at the end of a box's reach.
 fn reached(from: u32) -> Option<u32> {
     Some(from.saturating_add(REACH))
 }
 
-// The operation of a session's row, and its fields: its puts, and then every operation in turn on the ids that it has put. A moment is as if
-// by chance too, so that some moves are late.
+// The operation of a session's row, and its fields: its puts, and then every operation in turn on the ids that it has
+// put. A moment looks random too, so that some moves are late.
 fn fields_of(session: u32, row: u32) -> (&'static str, [Option<u32>; 6]) {
     let number = session.wrapping_mul(1_000).wrapping_add(row % PUTS);
     let corner = (spread(number), spread(row));
@@ -69,7 +69,7 @@ fn add_field(text: &mut String, field: Option<u32>) -> Result<(), AllocError> {
     }
 }
 
-// So many rows of each session, in turn.
+// So many rows of each session, alternately.
 fn crowd_text(rt: &impl Abort, alloc: Global, rows: u32) -> Vec<u8> {
     let mut text = String::from_str(alloc, HEADER).expect(rt, "no memory");
     for row in 0..rows {
@@ -106,7 +106,7 @@ fn splits_among_calls(events: &Entries) -> bool {
     among
 }
 
-// Plays so many rows of each session: each row is answered, and leaves are split among the calls.
+// Plays so many rows of each session. Each row is answered, and leaves are split among the calls.
 fn a_crowd_is_answered<R: Threads + Wait + Abort + Sync>(rt: &R, alloc: Global, rows: u32)
     requires { rows ≤ 4000 }
 {
@@ -115,7 +115,7 @@ fn a_crowd_is_answered<R: Threads + Wait + Abort + Sync>(rt: &R, alloc: Global, 
     expect_all(rt, &left, SESSIONS as usize * rows as usize);
 }
 
-// So many rows are answered.
+// Fails unless all rows are answered.
 fn expect_all(rt: &impl Abort, left: &Left, all: usize) {
     assert_same!(rt; left.status, 0);
     assert_same!(rt; lines(left), all.saturating_add(1));

@@ -1,4 +1,4 @@
-//! What a refused call, a refused renewal or rotation, and an opening of two files that is refused, are told as.
+//! The texts of a refused call, a refused renewal or rotation, and an opening of two files that is refused.
 use commit_book::RenewFault;
 use recovery::OpenFault;
 use sessions::CallFault;

@@ -31,7 +31,7 @@ pub(crate) type Place = Option<Option<Stamped>>;
 // Where the objects 1 to 4 are.
 pub(crate) type Places = [Place; 4];
 
-// The place at this point, with this moment.
+// The position at this point, with this moment.
 macro_rules! place {
     ($x:expr, $y:expr, $moment:expr) => {
         Some(Some(Stamped {
@@ -81,7 +81,7 @@ pub(crate) fn look<I: Index, D: LogDisk, R: Wait>(
     (places, client.into_pass())
 }
 
-// Three puts and a remove.
+// Three puts and a removal.
 fn fill<I: Index, D: LogDisk, R: Wait>(
     rt: &R,
     alloc: Global,
@@ -100,7 +100,7 @@ fn fill<I: Index, D: LogDisk, R: Wait>(
     client.into_pass()
 }
 
-// One put more.
+// One more put.
 pub(crate) fn go_on<I: Index, D: LogDisk, R: Wait>(
     rt: &R,
     alloc: Global,
@@ -149,7 +149,7 @@ pub(crate) fn filled<I: Index, D: LogDisk, R: Wait + Abort>(
     (store, pass)
 }
 
-// Ends a store, all of whose appends went well: how many entries it had, and its drive.
+// Ends a store, all of whose appends went well. Returns how many entries it had, and its drive.
 pub(crate) fn close<I: Index, D: LogDisk>(
     rt: &impl Abort,
     store: Store<I, D, OverFile>,
@@ -200,7 +200,7 @@ pub(crate) fn open_one<I: Index, D: LogDisk>(
     }
 }
 
-// What is found over either file, which one it is, and the drives: the one of the store, and the other one.
+// What is found over either file, which one it is, and the drives: first that of the store, then the other one.
 pub(crate) fn found_in<I: Index, D: LogDisk, R: Wait + Abort>(
     rt: &R,
     alloc: Global,
@@ -238,7 +238,7 @@ fn renewed<I: Index, D: LogDisk>(
     }
 }
 
-/// With which leaves a store is rotated.
+/// The leaves of a rotation.
 #[derive(Clone, Copy)]
 pub(crate) enum Leaves {
     AsTheyAre,
@@ -289,7 +289,7 @@ fn expect_found<R: Wait + Abort>(rt: &R, alloc: Global, disk: MemDisk, wanted: F
     disk
 }
 
-// Fails unless this is found over two files, in the one; the other one is an empty log then.
+// Fails unless this is found over two files, in one of them. The other one is an empty log then.
 pub(crate) fn expect_in<R: Wait + Abort>(
     rt: &R,
     alloc: Global,
@@ -302,7 +302,7 @@ pub(crate) fn expect_in<R: Wait + Abort>(
     expect_bytes(rt, alloc, &spare, EMPTY);
 }
 
-// The same in both orders of the files, of which the one that it is found in comes first.
+// The same in both orders of the files. The file in which it is found comes first.
 pub(crate) fn expect_either<R: Wait + Abort>(
     rt: &R,
     alloc: Global,
@@ -316,7 +316,7 @@ pub(crate) fn expect_either<R: Wait + Abort>(
     expect_in(rt, alloc, two, one, (Which::Second, wanted));
 }
 
-// Fills a store, and goes on with it renewed: how many entries each of the two had, and the drive.
+// Fills a store, and continues with it renewed. Returns how many entries each of the two had, and the drive.
 fn fill_and_renew<I: Index, D: LogDisk, R: Wait + Abort>(
     rt: &R,
     alloc: Global,
@@ -364,7 +364,7 @@ fn unopened<I: Index, D: LogDisk>(
     }
 }
 
-// Fails unless it isn't opened for this cause, and its drive comes back with the bytes that it had.
+// Fails unless the store isn't opened for this reason, and its drive comes back with the bytes that it had.
 fn expect_unopened(rt: &impl Abort, alloc: Global, file: &[&[u8]], bucket: u32, wanted: OpenCause) {
     let disk = disk_with(rt, alloc, file);
     let NotOpened { disk, cause } = unopened::<FlatIndex, MemDisk>(rt, alloc, disk, bucket);
@@ -372,7 +372,7 @@ fn expect_unopened(rt: &impl Abort, alloc: Global, file: &[&[u8]], bucket: u32, 
     expect_bytes(rt, alloc, &disk, file);
 }
 
-// Why neither of two files is opened, of which the second one has this name, and both drives.
+// Why neither of two files is opened, and both drives. The second file has this name.
 fn refused<I: Index, D: LogDisk>(
     rt: &impl Abort,
     alloc: Global,
@@ -387,7 +387,7 @@ fn refused<I: Index, D: LogDisk>(
     }
 }
 
-// Fails unless neither is opened for this cause, and both drives come back with the bytes that they had.
+// Fails unless neither is opened for this reason, and both drives come back with the bytes that they had.
 fn expect_refused(
     rt: &impl Abort,
     alloc: Global,
@@ -398,7 +398,7 @@ fn expect_refused(
     expect_refused_as(rt, alloc, files, "two.log", bucket, wanted);
 }
 
-// The same where the second file has this name.
+// The same if the second file has this name.
 fn expect_refused_as(
     rt: &impl Abort,
     alloc: Global,
@@ -442,7 +442,7 @@ fn files_of_two_worlds_are_refused(rt: HostRuntime) {
     );
 }
 
-// Neither drive is touched, also where its file would be made.
+// Neither drive is touched, even if its file would be created.
 #[test]
 fn one_name_for_both_files_is_refused(rt: HostRuntime) {
     let one_file = EitherCause::OneFile;

@@ -97,7 +97,7 @@ pub fn calls(events: &Entries) -> usize {
         .count()
 }
 
-/// How many splits a history has that were abandoned.
+/// How many abandoned splits a history has.
 pub fn abandons(events: &Entries) -> usize {
     events
         .as_slice()

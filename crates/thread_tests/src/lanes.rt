@@ -1,4 +1,4 @@
-//! Lanes that a store runs by itself: a split that is held while another lane puts, and what is kept of it.
+//! Lanes that a store runs by itself: a split that waits while another lane puts, and what is kept of it.
 ghost use Rattle.std.specs.Prelude.{◌≡◌, ℕ, ◌+◌, ◌<◌, length, slice_index_or, false};
 ghost use Rattle.sessions.specs.Lanes.{IsReadyLane};
 ghost use Rattle.store_client.specs.Caller.{IsFree, KeepsPass};
@@ -23,7 +23,7 @@ use std::sync::Wait;
 use std::thread::Threads;
 use zorder::{Name, Point, child, key};
 
-// The put of an object, of moment 0.
+// The put of an object, with moment 0.
 macro_rules! put {
     ($id:expr, $x:expr, $y:expr) => {
         Op::Put {
@@ -43,7 +43,7 @@ const PUTS: [(u32, Op); 5] = [
     (5, put!(5, 1, 1)),
 ];
 
-// Where the other lane puts its object, behind a question that it waits at.
+// Where the other lane puts its object, after a question at which it waits.
 const THERE: Point = Point {
     x: 2_147_483_648,
     y: 0,
@@ -86,7 +86,7 @@ fn beside(rt: &impl Abort, alloc: Global) -> Vec<(u32, Op)>
     Vec::from_array(alloc, BESIDE).expect(rt, "no memory")
 }
 
-// Runs lanes, whose passes can be joined after that.
+// Runs lanes. Their passes can be joined afterwards.
 fn run_lanes<I: Index + Send, D: LogDisk + Send, R: Threads + Wait + Sync, G: Gate + Sync>(
     rt: &R,
     alloc: Global,
@@ -100,7 +100,7 @@ fn run_lanes<I: Index + Send, D: LogDisk + Send, R: Threads + Wait + Sync, G: Ga
     store.run_lanes(rt, alloc, lanes, gate);
 }
 
-// What the first lane kept, and the index in the end.
+// What the first lane kept, and the index at the end.
 fn run_both<I: Index + Send, D: LogDisk + Send, R: Threads + Wait + Abort + Sync, G: Gate + Sync>(
     rt: &R,
     alloc: Global,
@@ -143,7 +143,7 @@ fn close_both<I: Index, D: LogDisk>(
     (kept, index_of(store.close(all)))
 }
 
-// How the split ended that was tried behind the fifth row.
+// How the split after the fifth row ended.
 fn last_split(kept: &[KeptRow]) -> Option<Split> {
     match kept.get(4) {
         Some(row) => row.split,
@@ -151,7 +151,7 @@ fn last_split(kept: &[KeptRow]) -> Option<Split> {
     }
 }
 
-// Whether the object of the second lane stands in the second half of the plane.
+// Whether the object of the second lane is in the second half of the plane.
 fn stands_in_the_half<I: Index>(index: &I) -> bool {
     let row = Row {
         key: key(THERE),
@@ -161,7 +161,7 @@ fn stands_in_the_half<I: Index>(index: &I) -> bool {
     name == child(&Name::whole(), true) && bucket.holds(&row)
 }
 
-// Lane 1 has begun the split of the whole plane, and stays until the put of lane 2 was answered.
+// Lane 1 has begun the split of the whole plane, and waits until the put of lane 2 was answered.
 fn split_is_kept<I: Index + Send, D: LogDisk + Send, R: Threads + Wait + Abort + Sync>(
     rt: &R,
     alloc: Global,

@@ -1,4 +1,5 @@
-//! Stores over files that are rotated with leaves anew: leaves that have become empty, and leaves with more objects than the size.
+//! Stores over files that are rotated with new leaves: leaves that have become empty, and leaves with more objects than
+//! the bucket size.
 ghost use Rattle.std.specs.Prelude.{◌≡◌};
 ghost use Rattle.store_client.specs.Caller.{IsFree};
 
@@ -38,7 +39,7 @@ const FAR: Point = Point {
     y: 1 << 31,
 };
 
-// Puts two objects here and three there, for which the one leaf is split, and takes the three away.
+// Puts two objects in one half and three in the other, so that the one leaf is split, and removes the three.
 fn fill_and_drain<I: Index, D: LogDisk, R: Wait>(
     rt: &R,
     alloc: Global,
@@ -75,7 +76,7 @@ fn opened<I: Index, D: LogDisk>(rt: &impl Abort, alloc: Global, disk: D) -> Open
     (store, pass)
 }
 
-// Rotates a store, and ends it: its drive, and that of its first file.
+// Rotates a store, and ends it. Returns its drive, and that of its first file.
 fn rotate_and_close<I: Index, D: LogDisk>(
     rt: &impl Abort,
     alloc: Global,
@@ -97,13 +98,13 @@ fn rotate_and_close<I: Index, D: LogDisk>(
     (disk, spare)
 }
 
-// An empty drive, on which 133 records have room.
+// An empty drive with room for 133 records.
 fn spare_disk(rt: &impl Abort, alloc: Global) -> MemDisk {
     let (bytes, failing) = (Vec::new(alloc), Vec::new(alloc));
     MemDisk::new(alloc, bytes, 8_192, 128, failing).expect(rt, "no drive")
 }
 
-// Opens a store over a file with these bytes, rotates it into an empty one and ends it: its drive.
+// Opens a store over a file with these bytes, rotates it into an empty one and ends it. Returns its drive.
 fn rotated_of<R: Wait + Abort>(rt: &R, alloc: Global, bytes: &[&[u8]], leaves: Leaves) -> MemDisk {
     let opened = opened::<FlatIndex, MemDisk>(rt, alloc, disk_with(rt, alloc, bytes));
     let (disk, spare) = rotate_and_close(rt, alloc, opened, spare_disk(rt, alloc), leaves);
@@ -130,7 +131,7 @@ fn leaves_out_what_is_empty<R: Wait + Abort>(rt: &R, alloc: Global) {
     assert_same!(rt; found, (2, Some(20), 2, FIRST_TWO));
 }
 
-// Five objects in one leaf, two of them in the one half of its keys and three in the other one.
+// Five objects in one leaf, two of them in one half of its keys and three in the other one.
 const CROWDED: &[&[u8]] = &[HEADER, PUT_1, PUT_2, PUT_5, PUT_6, PUT_7, END];
 
 const SPLIT: &[&[u8]] = &[
@@ -149,7 +150,7 @@ fn splits_what_is_full<R: Wait + Abort>(rt: &R, alloc: Global) {
     expect_bytes(rt, alloc, &disk, SPLIT);
 }
 
-// Five objects at one place.
+// Five objects at one point.
 const HEAP: &[&[u8]] = &[HEADER, PUT_5, PUT_6, PUT_7, PUT_8, PUT_9, END];
 
 // A name has at most 64 bits, so as many leaves are split, each by two records.

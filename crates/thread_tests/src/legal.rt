@@ -1,10 +1,10 @@
-//! Whether a history is legal with what its rows were told.
+//! Whether a history is legal with the answers of its rows.
 use plain_list::{Answer, Call, Entries, Entry, Stamped, World, is_legal};
 use std::alloc::Global;
 use std::process::Abort;
 use zorder::Memory;
 
-/// What a put, a move or a find was told.
+/// The answer to a put, a move or a find.
 #[derive(Clone, Copy)]
 pub enum Told {
     Done,
@@ -24,7 +24,7 @@ fn answer(told: Told) -> Answer {
     }
 }
 
-// What a row was told, of which the list has the first row's at its head.
+// The answer of a row. The list has the first row's answer at its head.
 fn told_of(told: &[Told], row: u32) -> Option<Told> {
     let place = (row as usize).checked_sub(1)?;
     told.get(place).copied()
@@ -53,7 +53,7 @@ fn call_of(entry: &Entry, told: &[Told]) -> Option<Call> {
     }
 }
 
-/// Whether the calls of a history over no objects have these answers, where one plain list is asked in its order.
+/// Whether the calls of a history over no objects have these answers, if one plain list makes them in its order.
 pub fn is_legal_with(
     rt: &impl Abort,
     alloc: Global,

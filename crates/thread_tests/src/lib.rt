@@ -1,9 +1,14 @@
-//! Tests of the lock by itself, and of sessions that run at once: passes by hand, lanes in an order that a gate makes, also such as a store
-//! runs by itself, and sixteen lanes together; the index that one of them watches; the verbs of a client, and its teams; the objects of a
-//! store; what a refused call is told as; a store that is renewed; and stores over files, also where they go on over a second one.
+//! Tests of the lock by itself, and of sessions that run at the same time:
+//! - passes by hand;
+//! - lanes in an order that a gate makes, also lanes that a store runs by itself, and sixteen lanes together;
+//! - the index that one lane watches;
+//! - the verbs of a client, and its teams;
+//! - the objects of a store;
+//! - the texts of refused calls;
+//! - a store that is renewed, and stores over files, also when they continue over a second file.
 #![tactic(auto)]
 
-// `assert!` and `assert_eq!` as calls: the proof of a function with several of them is much shorter so.
+// `assert!` and `assert_eq!` as calls. They make the proof of a function with several of them much shorter.
 #[cfg(test)]
 macro_rules! assert_is {
     ($rt:expr; $is_so:expr $(,)?) => {

@@ -5,10 +5,10 @@ use std::process::Abort;
 
 pub(crate) const HEADER: &[u8] = b"MDLOCLOG\x02\x01\0\0\0\0\0\0";
 
-// The clear commit byte behind the last record.
+// The clear commit byte after the last record.
 pub(crate) const END: &[u8] = b"\0";
 
-// The records: a commit byte and a kind, an id, and of a put its x, its y and its moment.
+// The records: a commit byte and a kind, an id, and for a put its x, its y and its moment.
 pub(crate) const PUT_1: &[u8] =
     b"\x01\x01\0\0\0\0\0\0\0\x01\0\0\0\x03\0\0\0\x05\0\0\0\0\0\0\0\x0a\0\0\0\0\0\0";
 
@@ -24,17 +24,17 @@ pub(crate) const REMOVE_3: &[u8] =
 pub(crate) const PUT_4: &[u8] =
     b"\x01\x01\0\0\0\0\0\0\0\x04\0\0\0\x07\0\0\0\x07\0\0\0\0\0\0\0\x1e\0\0\0\0\0\0";
 
-// The first object a moment later.
+// The first object with a later moment.
 pub(crate) const LATER_1: &[u8] =
     b"\x01\x01\0\0\0\0\0\0\0\x01\0\0\0\x03\0\0\0\x05\0\0\0\0\0\0\0\x0b\0\0\0\0\0\0";
 
-// A record whose commit byte was not set, nor that of the one behind it.
+// A record whose commit byte was not set, nor that of the next one.
 pub(crate) const UNSET_1: &[u8] =
     b"\0\x01\0\0\0\0\0\0\0\x01\0\0\0\x03\0\0\0\x05\0\0\0\0\0\0\0\x0a\0\0\0\0\0\0";
 
 pub(crate) const EMPTY: &[&[u8]] = &[HEADER, END];
 
-// Three puts and a remove, and what is written anew of them.
+// Three puts and a removal, and the fresh log of them.
 pub(crate) const FILLED: &[&[u8]] = &[HEADER, PUT_1, PUT_2, PUT_3, REMOVE_3, END];
 
 pub(crate) const ANEW: &[&[u8]] = &[HEADER, PUT_1, PUT_2, END];
@@ -50,7 +50,7 @@ fn bytes_of(rt: &impl Abort, alloc: Global, pieces: &[&[u8]]) -> Vec<u8> {
     bytes
 }
 
-// A drive with these bytes, where these calls fail.
+// A drive with these bytes. These of its calls fail.
 pub(crate) fn disk_of(rt: &impl Abort, alloc: Global, bytes: &[u8], failing: &[Fail]) -> MemDisk {
     let bytes = Vec::from_slice(alloc, bytes).expect(rt, "no memory");
     let failing = Vec::from_slice(alloc, failing).expect(rt, "no memory");

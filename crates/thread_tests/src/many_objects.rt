@@ -33,12 +33,12 @@ fn disk_of_many(rt: &impl Abort, alloc: Global) -> MemDisk {
     disk_with_room(rt, alloc, bytes)
 }
 
-// A drive with these bytes, on which 200,000 records more have room.
+// A drive with these bytes, and with room for 200,000 more records.
 fn disk_with_room(rt: &impl Abort, alloc: Global, bytes: Vec<u8>) -> MemDisk {
     MemDisk::new(alloc, bytes, 9_000_000, 1_024, Vec::new(alloc)).expect(rt, "no drive")
 }
 
-// Opens a store over a drive with buckets of 4,096: it, and how many objects it has.
+// Opens a store over a drive with buckets of 4,096. Returns it, and how many objects it has.
 fn opened<I: Index, D: LogDisk>(rt: &impl Abort, alloc: Global, disk: D) -> (Open<I, D>, u64)
     ensures free { IsFree result.0.0 result.0.1 }
     ensures parts { result.0.1.parts ≡ 65536 }
@@ -57,7 +57,8 @@ fn opened<I: Index, D: LogDisk>(rt: &impl Abort, alloc: Global, disk: D) -> (Ope
     }
 }
 
-// Rotates a store over this drive to that one, closes it, and opens the second file: how many objects there are.
+// Rotates a store over this drive to that one, closes it, and opens the second file. Returns how many objects there
+// are.
 fn found_after<I: Index, D: LogDisk>(
     rt: &impl Abort,
     alloc: Global,

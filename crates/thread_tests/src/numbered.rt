@@ -15,7 +15,8 @@ struct Versions {
     late_reads: AtomicU64,
 }
 
-/// A version of an index. A change makes the next one, which is the newest from then on, and to share a version makes none.
+/// A version of an index. A change creates the next one, which is the newest from then on. Sharing a version creates
+/// none.
 #[derive(Drop)]
 pub struct Numbered<I: Index> {
     index: I,
@@ -24,7 +25,7 @@ pub struct Numbered<I: Index> {
 }
 
 impl<I: Index> Numbered<I> {
-    /// How often a version was read that wasn't the newest any more.
+    /// How often a version was read that was no longer the newest.
     pub fn late_reads(&self) -> u64 {
         self.versions.late_reads.load(Ordering::SeqCst)
     }
@@ -36,7 +37,7 @@ impl<I: Index> Numbered<I> {
         }
     }
 
-    // The version behind the newest, with this index.
+    // The version after the newest, with this index.
     fn next(&self, index: I) -> Result<Numbered<I>, AllocError>
         ensures { IfOk result (λ next. next.index ≡ index) }
     {

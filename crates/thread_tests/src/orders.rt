@@ -1,6 +1,7 @@
-//! Lanes that wait for one another, so that what each is told can be said beforehand.
+//! Lanes that wait for one another, so that the answers of each are known beforehand.
 //!
-//! Who makes the first call of all isn't up to the gate. So each output has two forms, with the places 1 and 2 exchanged.
+//! The gate doesn't decide which lane makes the very first call. So each output has two forms, with the places 1 and 2
+//! exchanged.
 use crate::checks::holds;
 use crate::fixtures::{Left, play};
 use crate::legal::{Told, is_legal_with};
@@ -74,7 +75,7 @@ fn is_played<R: Threads + Wait + Abort + Sync>(rt: &R, alloc: Global, scene: &Sc
     let _left = play_scene(rt, alloc, scene);
 }
 
-// Each of two lanes stays behind its row until the other has come there too.
+// Each of two lanes waits after its row until the other has come there too.
 const SIDE_BY_SIDE: Scene = Scene {
     input: rows!("1,where,9,,,,,\n2,where,9,,,,,\n"),
     turns: &[answered!(1, 2), answered!(2, 2)],
@@ -87,7 +88,7 @@ fn lanes_run_side_by_side(rt: HostRuntime) {
     is_played(&rt, rt.alloc(), &SIDE_BY_SIDE);
 }
 
-// Lane 1 has taken the index for its box, and stays until the put of lane 2 was answered.
+// Lane 1 has taken the index for its box, and waits until the put of lane 2 was answered.
 const OVERTAKEN: Scene = Scene {
     input: rows!(
         "1,put,1,0,0,,,0\n1,box,,0,0,9,9,\n2,where,9,,,,,\n2,put,2,5,5,,,0\n2,box,,0,0,9,9,\n"
@@ -107,8 +108,8 @@ fn a_query_that_is_held_answers_as_at_its_place(rt: HostRuntime) {
     is_played(&rt, rt.alloc(), &OVERTAKEN);
 }
 
-// Lane 1 has taken the index for a run of 16 boxes, and stays until the put of lane 2 was answered. So the lock is free meanwhile, and the
-// boxes are answered anew.
+// Lane 1 has taken the index for a run of 16 boxes, and waits until the put of lane 2 was answered. So the lock is free
+// in between, and the boxes are answered again.
 const RUN_OVERTAKEN: Scene = Scene {
     input: rows!(
         "1,put,1,0,0,,,0\n1,box,,0,0,9,9,\n1,box,,0,0,9,9,\n1,box,,0,0,9,9,\n1,box,,0,0,9,9,\n1,box,,0,0,9,9,\n1,box,,0,0,9,9,\n1,box,,0,0,9,9,\n1,box,,0,0,9,9,\n1,box,,0,0,9,9,\n1,box,,0,0,9,9,\n1,box,,0,0,9,9,\n1,box,,0,0,9,9,\n1,box,,0,0,9,9,\n1,box,,0,0,9,9,\n1,box,,0,0,9,9,\n1,box,,0,0,9,9,\n2,where,9,,,,,\n2,put,2,5,5,,,0\n"
@@ -132,7 +133,8 @@ fn a_run_of_queries_that_a_put_overtakes_answers_as_behind_it(rt: HostRuntime) {
     is_played(&rt, rt.alloc(), &RUN_OVERTAKEN);
 }
 
-// Lane 1's fifth put makes the one leaf full. It has begun the split, and stays until the put of lane 2 was answered.
+// Lane 1's fifth put makes the one leaf full. Lane 1 has begun the split, and waits until the put of lane 2 was
+// answered.
 const BETWEEN: Scene = Scene {
     input: rows!(
         "1,put,1,0,0,,,0\n1,put,2,1,0,,,0\n1,put,3,2,0,,,0\n1,put,4,3,0,,,0\n1,put,5,4000000000,0,,,0\n1,box,,4000000000,0,4000000009,9,\n2,where,9,,,,,\n2,put,6,4000000001,0,,,0\n"
@@ -151,7 +153,7 @@ const BETWEEN: Scene = Scene {
     ),
 };
 
-// Whether row 8 of session 2 stands between the begin and the install of the first split.
+// Whether row 8 of session 2 is between the begin and the install of the first split.
 fn is_call_in_a_split(entries: Option<&[Entry]>) -> bool {
     matches!(
         entries,
@@ -202,7 +204,7 @@ const SECOND_PUT: Scene = Scene {
     those: lines!("1,2,absent,\n2,3,present,8:8:10\n3,1,done,\n"),
 };
 
-// What the rows of each are told, and what they aren't.
+// The answers to the rows of each, and answers that they don't have.
 const FIRST_TOLD: &[Told] = &[Told::Done, Told::Absent, FIRST];
 
 const FIRST_UNTOLD: &[Told] = &[SECOND, Told::Absent, Told::Done];

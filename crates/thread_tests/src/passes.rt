@@ -1,4 +1,4 @@
-//! A store by hand: a pass is split off, makes a call, tells another what it has seen, and is joined.
+//! A store by hand: a pass is split off, makes a call, passes on what it has seen, and is joined.
 ghost use Rattle.std.specs.Prelude.{◌≤◌};
 ghost use Rattle.store_client.specs.Caller.{IsFree, KeepsPass};
 
@@ -19,7 +19,7 @@ use std::process::Abort;
 use std::sync::Wait;
 use std::sync::ledger::Blank;
 
-// Has a second pass make the call, and joins it behind that.
+// Makes the call with a second pass, and joins that pass afterwards.
 fn find_apart<I: Index, D: LogDisk, R: Wait>(
     rt: &R,
     alloc: Global,
@@ -47,7 +47,7 @@ fn find_apart<I: Index, D: LogDisk, R: Wait>(
     answer
 }
 
-// What the call was told, and how many entries the book has in the end.
+// The answer of the call, and how many entries the book has at the end.
 fn found<I: Index, D: LogDisk, R: Wait + Abort>(rt: &R, alloc: Global) -> (Done, u64) {
     let (store, mut pass) = new_store::<I, D>(rt, alloc);
     let answer = find_apart(rt, alloc, &store, &mut pass);

@@ -1,4 +1,4 @@
-//! The points of the gate that a lane comes to, and then the settling of the splits at the end.
+//! The points of the gate that a lane reaches, and then the splits at the end.
 use crate::fixtures::{HEADER, play};
 use io_edge::{Gate, GatePoint};
 use std::alloc::Global;
@@ -7,8 +7,8 @@ use std::sync::Wait;
 use std::sync::atomic::{AtomicBool, AtomicU64, Ordering};
 use std::thread::Threads;
 
-// The five puts stand in the same half of the plane: the split of the whole plane, which the fifth one tells, leaves them in one leaf, which
-// is split at the end. The box takes the index.
+// The five puts are in the same half of the plane. The fifth one fills the leaf, and the split of the whole plane
+// leaves them in one leaf, which is split at the end. The box takes the index.
 const INPUT: &str =
     "session,op,id,x,y,a,b,moment\n3,put,1,0,0,,,0\n3,put,2,1,0,,,0\n3,put,3,2,0,,,0\n3,put,4,0,2147483648,,,0\n3,put,5,1,2147483648,,,0\n3,box,,0,0,9,9,\n";
 
@@ -27,7 +27,7 @@ const POINTS: &[(GatePoint, u8)] = &[
     (GatePoint::Ready, 0),
 ];
 
-// An object, and then as many boxes as are answered one by one, and so many that they are one run.
+// An object, and then as many boxes as are answered one by one, and as many as form one run.
 const FEW: usize = 15;
 
 const MANY: usize = 16;
@@ -42,7 +42,7 @@ fn boxes(rt: &impl Abort, alloc: Global, count: usize) -> Vec<u8> {
     text.into_bytes()
 }
 
-// The points of these: the index is taken for each box of a run before the answer of the first one stands.
+// The points of these. The index is taken for each box of a run before the first answer is there.
 fn points_of(rt: &impl Abort, alloc: Global, count: usize) -> Vec<(GatePoint, u8)> {
     let mut points = Vec::new(alloc);
     points
@@ -81,7 +81,7 @@ impl<'a> Awaited<'a> {
         }
     }
 
-    // Whether it was reached at each of its points, and at no other.
+    // Whether the gate was reached at each of its points, and at no other.
     fn was_reached(&self) -> bool {
         let reached = self.reached.load(Ordering::SeqCst);
         reached == self.points.len() as u64 && !self.is_other.load(Ordering::SeqCst)

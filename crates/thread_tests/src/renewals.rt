@@ -1,4 +1,4 @@
-//! A store in memory that goes on with an empty history: what it has room for, and which object is still there.
+//! A store in memory that continues with an empty history: what it has room for, and which object is still there.
 ghost use Rattle.std.specs.Prelude.{◌≡◌};
 ghost use Rattle.store_client.specs.Caller.{IsFree};
 
@@ -33,7 +33,7 @@ fn room_for(entries: u64) -> Room {
     }
 }
 
-// Asks for the object, and then for the room.
+// Looks up the object, and then reads the room.
 fn find_it<I: Index, D: LogDisk, R: Wait>(
     rt: &R,
     client: &mut Client<'_, I, D, Brand>,
@@ -45,7 +45,7 @@ fn find_it<I: Index, D: LogDisk, R: Wait>(
     (found, client.room(rt))
 }
 
-// The store goes on, and its history so far is handed out.
+// The store continues, and returns its history so far.
 fn renewed<I: Index, D: LogDisk>(
     rt: &impl Abort,
     alloc: Global,

@@ -1,4 +1,4 @@
-//! Stores that go on over a second file, also where a drive fails or a crash comes.
+//! Stores that continue over a second file, also when a drive fails or a crash comes.
 ghost use Rattle.std.specs.Prelude.{◌≡◌, true, is_some};
 ghost use Rattle.sessions.specs.Shared.{HasWorld};
 ghost use Rattle.store_client.specs.Caller.{IsFree};
@@ -24,8 +24,8 @@ use store_file::{
     NotRotated, OpenedEither, OverFile, RotateCause, Rotated, Which, renew_book, rotate_store,
 };
 
-// Fills a store, and rotates it; where it goes on, that is with one put: how many entries each of the two had, and both drives, the one of
-// the store first.
+// Fills a store, and rotates it. If it continues, it makes one put. Returns how many entries each of the two had, and
+// both drives, that of the store first.
 fn fill_and_rotate<I: Index, D: LogDisk, R: Wait + Abort>(
     rt: &R,
     alloc: Global,
@@ -50,7 +50,8 @@ fn fill_and_rotate<I: Index, D: LogDisk, R: Wait + Abort>(
     ([entries.as_slice().len(), more], disk, spare)
 }
 
-// Opens either file, and rotates the store into the other one: which one it was, and both drives, the one of the store first.
+// Opens either file, and rotates the store into the other one. Returns which one it was, and both drives, that of the
+// store first.
 fn open_and_rotate<I: Index, D: LogDisk, R: Wait + Abort>(
     rt: &R,
     alloc: Global,
@@ -103,8 +104,9 @@ fn goes_on_behind_a_rotation<R: Wait + Abort>(rt: &R, alloc: Global, leaves: Lea
     expect_either(rt, alloc, GONE_ON, EMPTY, found);
 }
 
-// The calls of a rotation on the second drive, each with the file that is gone on over where it failed, and how many records that has. What
-// was written there counts once its first commit byte is set, and only the sync behind that one is left then.
+// The calls of a rotation on the second drive. Each has the file over which the store continues if that call fails, and
+// how many records the file has. What was written there counts once its first commit byte is set. Only the next sync is
+// left then.
 const ON_SPARE: &[(DiskCall, u64, Which, u64)] = &[
     (DiskCall::Len, 1, Which::First, 4),
     (DiskCall::Write, 1, Which::First, 4),
@@ -115,7 +117,7 @@ const ON_SPARE: &[(DiskCall, u64, Which, u64)] = &[
     (DiskCall::Sync, 3, Which::Second, 2),
 ];
 
-// Both drives of a rotation whose second drive fails, the one of the book first.
+// Both drives of a rotation whose second drive fails, that of the book first.
 fn unsure<I: Index, D: LogDisk, R: Wait + Abort>(
     rt: &R,
     alloc: Global,
@@ -161,8 +163,8 @@ fn book_renewed<I: Index, D: LogDisk>(
     }
 }
 
-// A store that a file in use keeps from a rotation goes on over its own file, with one put: how many entries the book and then the store
-// had, and both drives, the one of the store first.
+// Rotates a store into a file that is in use, so the store continues over its own file, with one put. Returns how many
+// entries the book and then the store had, and both drives, that of the store first.
 fn keep_and_renew<I: Index, D: LogDisk, R: Wait + Abort>(
     rt: &R,
     alloc: Global,
@@ -191,7 +193,7 @@ fn keep_and_renew<I: Index, D: LogDisk, R: Wait + Abort>(
     }
 }
 
-// What a crash may leave on a drive: with few bytes, or many, and this one in each free place.
+// What a crash may leave on a drive: few bytes, or many, with this value in each free byte.
 const CRASHES: &[(u64, u8)] = &[(0, 0), (0, 1), (1_024, 0), (1_024, 1), (1_024, 9)];
 
 // A drive as a crash at a moment may leave it.
@@ -201,7 +203,7 @@ fn image(rt: &impl Abort, alloc: Global, at: (&MemDisk, u64), len: u64, fill: u8
     disk_of(rt, alloc, image.as_slice(), &[])
 }
 
-// Fails unless the objects are found in these files, in the one or the other, and the store is rotated into that other one then.
+// Fails unless the objects are found in one of these files, and the store is rotated into the other one then.
 fn expect_after_crash<R: Wait + Abort>(rt: &R, alloc: Global, first: MemDisk, second: MemDisk) {
     let (_, found, disk, spare) = found_in::<FlatIndex, MemDisk, R>(rt, alloc, first, second);
     let (points, latest, _, places) = found;
@@ -213,7 +215,7 @@ fn expect_after_crash<R: Wait + Abort>(rt: &R, alloc: Global, first: MemDisk, se
     expect_bytes(rt, alloc, &spare, EMPTY);
 }
 
-// The same of each crash at a moment of one drive and one of the other.
+// The same for each crash at a moment of one drive and one of the other.
 fn expect_after_crashes<R: Wait + Abort>(
     rt: &R,
     alloc: Global,
@@ -227,7 +229,8 @@ fn expect_after_crashes<R: Wait + Abort>(
     }
 }
 
-// How many moments the first drive has before its log is cleared, and behind that; and how many the second one has in all.
+// How many moments the first drive has before its log is cleared, and after that; and how many the second one has in
+// all.
 const BEFORE: u64 = 19;
 
 const BEHIND: u64 = 23;
@@ -276,8 +279,8 @@ fn leaves_a_file_in_use<R: Wait + Abort>(rt: &R, alloc: Global, leaves: Leaves) 
     assert_same!(rt; two.moments(), 0);
 }
 
-// The calls of a rotation on the first drive, by which its log is cleared. Before them come nine writes and ten syncs: the log was made by
-// a write and a sync, opened with a sync, and each of four records was appended by two of each.
+// The calls of a rotation on the first drive, which clear its log. Nine writes and ten syncs come before them: a write
+// and a sync created the log, a sync opened it, and two of each appended each of four records.
 const ON_FIRST: &[(DiskCall, u64)] = &[
     (DiskCall::Write, 10),
     (DiskCall::Sync, 11),
@@ -285,7 +288,7 @@ const ON_FIRST: &[(DiskCall, u64)] = &[
     (DiskCall::Sync, 12),
 ];
 
-// Both drives of a rotation whose first drive fails, the one of the book last, and how many entries came back.
+// Both drives of a rotation whose first drive fails, that of the book last, and how many entries came back.
 fn uncleared<I: Index, D: LogDisk, R: Wait + Abort>(
     rt: &R,
     alloc: Global,
@@ -387,8 +390,8 @@ fn a_crash_in_a_rotation_leaves_the_objects(rt: HostRuntime) {
     keeps_its_objects(&rt, rt.alloc(), Leaves::Anew);
 }
 
-// What a crash may leave of two files: both logs; the old one beside a second file that isn't made, is short, or has records that don't
-// count yet; and the new one beside an old one of which the first commit byte is clear.
+// What a crash may leave of two files. Both logs. The old log, and a second file that isn't created, is short, or has
+// records that don't count yet. Or the new log, and an old one whose first commit byte is clear.
 #[test]
 fn the_same_objects_are_found_wherever_a_rotation_ends(rt: HostRuntime) {
     let old = (2, Some(20), 4, FIRST_TWO);

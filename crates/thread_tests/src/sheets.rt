@@ -1,5 +1,6 @@
-//! A lock around a sheet of entries: what one pass adds comes back, what another is told, and threads at once, prompt ones and ones of a
-//! batch, also such as sleep at the lock. One that isn't woken would sleep for ever, and its test be stopped.
+//! A lock around a sheet of entries: what one pass adds comes back, what one passes on to another, and threads that run
+//! at the same time. These are prompt or of a batch, and some sleep at the lock. One that isn't woken would sleep for
+//! ever, and the test would time out.
 ghost use Rattle.std.specs.Prelude.{◌≡◌, ℕ, ◌+◌, ◌<◌, ◌≤◌, ◌++◌, [], ◌∷◌, false, MatchBool};
 ghost use Rattle.std.specs.Thread.{IsSync};
 ghost use Rattle.plain_list.specs.declared.entries.Entry.{Entry};
@@ -23,7 +24,8 @@ struct Sheet {
     is_slow: bool,
 }
 
-// What sessions do at once: each adds so many rows, and each time is asleep so long with the lock held. The first so many are of a batch.
+// What the sessions do: each adds so many rows, and each time sleeps for this long while it holds the lock. The first
+// `of_batch` sessions are of a batch.
 #[derive(Clone, Copy)]
 struct Plan {
     sessions: u8,
@@ -55,7 +57,7 @@ impl Sheet {
         ensures entries { MatchBool result (self.new.entries.items ≡ self.old.entries.items ++ entry ∷ []) (self.new.entries.items ≡ self.old.entries.items) }
         ensures same { self.new.bucket ≡ self.old.bucket }
     {
-        // Where `Lost` isn't named too, the checker can't make its plan for an entry.
+        // Unless `Lost` is named too, the checker can't make its plan for an entry.
         let _: Option<Lost> = None;
         self.entries.push(entry).is_ok()
     }
@@ -95,14 +97,14 @@ fn failed() -> Entry
     }
 }
 
-// With the lock held, for as long as others are to wait for it.
+// Holds the lock for as long as others are to wait for it.
 fn stay<R: Clock>(rt: &R, asleep: Duration) {
     if !asleep.is_zero() {
         thread::sleep(rt, asleep);
     }
 }
 
-// Adds an entry to the sheet and to the history. The pass has then seen it last, and owns its position.
+// Adds an entry to the sheet and to the history. The pass has seen it last then, and owns its position.
 fn add<R: Wait + Clock>(
     rt: &R,
     lock: &BookLock<Sheet>,
@@ -192,7 +194,7 @@ fn add_rows<R: Wait + Clock>(
     }
 }
 
-// Each session up to this one adds its entries, all at once.
+// Each session up to this one adds its entries, all at the same time.
 fn add_all<R: Threads + Wait + Clock + Sync>(
     rt: &R,
     lock: &BookLock<Sheet>,
@@ -223,7 +225,7 @@ fn add_all<R: Threads + Wait + Clock + Sync>(
     lock.join_pass(pass, mine);
 }
 
-// Whether each of so many sessions has so many rows, in order, and nobody else one.
+// Whether each of so many sessions has so many rows, in order, and no other session has one.
 fn are_in_order(entries: &[Entry], sessions: usize, rows: u32) -> bool {
     let mut next = [0; 9];
     for entry in entries {
@@ -245,7 +247,7 @@ fn are_in_order(entries: &[Entry], sessions: usize, rows: u32) -> bool {
         && entries.len() == sessions.saturating_mul(rows as usize)
 }
 
-// The sessions add their rows at once: all stand in one history, and the lock is closed.
+// The sessions add their rows at the same time. All rows are in one history, and the lock is closed.
 fn each_entry_comes<R: Threads + Wait + Clock + Abort + Sync>(rt: &R, alloc: Global, plan: Plan)
     requires { 1 ≤ plan.sessions }
 {
@@ -278,7 +280,7 @@ fn slow(sessions: u8, rows: u32, asleep: Duration) -> Plan
     }
 }
 
-// Sessions that take a quick value, of which so many, the first, are of a batch.
+// Sessions that take a quick value. The first of them are of a batch.
 fn mixed(sessions: u8, of_batch: u8, rows: u32, asleep: Duration) -> Plan
     ensures { result.sessions ≡ sessions }
 {

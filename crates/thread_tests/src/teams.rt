@@ -1,4 +1,4 @@
-//! Teams of a client: works of any number at once, each in a thread of its own, in order and with a session of its own.
+//! Teams of a client: any number of works at the same time, in order. Each has a thread and a session of its own.
 ghost use Rattle.std.specs.Prelude.{◌<◌, vec_len};
 ghost use Rattle.store_client.specs.Caller.{Keeps};
 
@@ -26,7 +26,7 @@ struct Putter {
 
 const HERE: Point = Point { x: 5, y: 5 };
 
-// The one of this object.
+// The work that puts this object.
 fn who_puts(id: u64) -> Putter {
     Putter {
         id,
@@ -44,7 +44,7 @@ impl<R: Wait> Work<R> for Putter {
     }
 }
 
-// The session of the first of a team: those behind the next one count from 0.
+// The session of the first of a team. Those after the next one count from 0.
 const FIRST: u8 = 254;
 
 // What a team has done, and the history.
@@ -82,7 +82,7 @@ fn session_of(entries: &[Entry], object: u64) -> Option<u8> {
     None
 }
 
-// Whether a team put these objects, in this order, each by this session.
+// Whether a team put these objects, in this order, each in this session.
 fn has_put(done: &[Putter], entries: &[Entry], wanted: &[(u64, u8)]) -> bool {
     done.len() == wanted.len()
         && done.iter().zip(wanted.iter()).all(|(putter, (id, session))| {
@@ -92,7 +92,7 @@ fn has_put(done: &[Putter], entries: &[Entry], wanted: &[(u64, u8)]) -> bool {
         })
 }
 
-// The numbers of their calls, together.
+// The sum of the places of their calls.
 fn sum_of_places(done: &[Putter]) -> u64 {
     done.iter()
         .fold(0, |sum, putter| putter.place.saturating_add(sum))
@@ -105,7 +105,7 @@ fn calls(entries: &[Entry]) -> usize {
         .count()
 }
 
-// The places of so many calls are 1 to that.
+// The places of so many calls are 1 to that number.
 fn works_all<R: Threads + Wait + Sync + Abort>(
     rt: &R,
     alloc: Global,

@@ -1,12 +1,13 @@
-//! A gate that has lanes come to some of its points in an order that a test says.
+//! A gate that makes lanes reach some of its points in an order that a test names.
 use io_edge::{Gate, GatePoint};
 use std::sync::atomic::{AtomicBool, AtomicU64, Ordering};
 use std::thread;
 
-// How often a lane looks whether its turn has come before it gives up. So a test that waits for what never comes fails, and ends.
+// How often a lane looks whether its turn has come before it gives up. So a test that waits for something that never
+// happens fails, and ends.
 const MOST_LOOKS: u64 = 100_000_000;
 
-/// A lane comes to a point in its turn, and stays there until so many turns were taken in all.
+/// A lane reaches a point in its turn, and waits there until so many turns were taken in all.
 #[derive(Clone, Copy)]
 pub struct Turn {
     pub point: GatePoint,
@@ -14,7 +15,7 @@ pub struct Turn {
     pub until: u64,
 }
 
-/// Turns that are taken in their order. Whoever comes to a point for which no turn is left goes on at once.
+/// Turns that are taken in their order. A lane that reaches a point for which no turn is left continues at once.
 #[derive(Drop)]
 pub struct Turns<'a> {
     list: &'a [Turn],
@@ -31,7 +32,7 @@ impl<'a> Turns<'a> {
         }
     }
 
-    /// Whether each turn was taken, and nobody gave up.
+    /// Whether each turn was taken, and no lane gave up.
     pub fn are_over(&self) -> bool {
         let taken = self.taken.load(Ordering::SeqCst);
         taken == self.list.len() as u64 && !self.late.load(Ordering::SeqCst)

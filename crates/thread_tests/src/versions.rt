@@ -1,4 +1,4 @@
-//! A box beside another session's puts, over an index whose versions have numbers.
+//! A box while another session puts, over an index whose versions have numbers.
 ghost use Rattle.std.specs.Prelude.{◌≡◌, ◌+◌};
 ghost use Rattle.plain_list.specs.Answer.{IsValid};
 ghost use Rattle.store_client.specs.Caller.{IsFree, KeepsPass};
@@ -25,13 +25,13 @@ use std::thread::{Threads, join_mut};
 use step_count::Steps;
 use zorder::{Placed, Point, Region};
 
-// What session 1 puts before all else.
+// What session 1 puts before everything else.
 const FIRST: Placed = Placed {
     id: 1,
     at: Point { x: 0, y: 0 },
 };
 
-// What session 2 puts, one outside the box and then one in it.
+// What session 2 puts: one outside the box and then one in it.
 const OUTSIDE: Placed = Placed {
     id: 2,
     at: Point { x: 10, y: 10 },
@@ -118,7 +118,7 @@ fn ask<I: Index, D: LogDisk, R: Wait, G: Gate>(
     call::<I, D, Brand, R, G>(rt, alloc, store, pass, 1, &op, gate, Blank::new(1))
 }
 
-// The answer to the box of session 1, with the puts of session 2 in a thread of their own.
+// The answer to the box of session 1, while session 2 puts in a thread of its own.
 fn ask_beside<R: Threads + Wait + Sync, G: Gate + Sync>(
     rt: &R,
     alloc: Global,
@@ -144,7 +144,7 @@ fn ask_beside<R: Threads + Wait + Sync, G: Gate + Sync>(
     answer
 }
 
-// A store where session 1 has put an object, and a pass for each of two sessions.
+// A store in which session 1 has put an object, and a pass for each of two sessions.
 fn opened<I: Index, D: LogDisk, R: Wait + Abort, G: Gate>(
     rt: &R,
     alloc: Global,
@@ -163,7 +163,7 @@ fn opened<I: Index, D: LogDisk, R: Wait + Abort, G: Gate>(
     (store, one, two)
 }
 
-// The index of a store in the end.
+// The index of a store at the end.
 fn closed<I: Index, D: LogDisk>(
     store: Store<I, D, Brand>,
     mut one: Pass<SharedBook<I, D, Brand>>,
@@ -176,7 +176,7 @@ fn closed<I: Index, D: LogDisk>(
     index_of(store.close(one))
 }
 
-// The answer to the box with the puts beside it, and the index in the end.
+// The answer to the box while the puts run, and the index at the end.
 fn asked_beside<R: Threads + Wait + Abort + Sync, G: Gate + Sync>(
     rt: &R,
     alloc: Global,
@@ -208,13 +208,13 @@ fn lists_the_first(answer: &Answer) -> bool {
     }
 }
 
-// How many reads of older versions there were, where the box lists what stood at its place.
+// How many reads of older versions there were, if the box lists what was there at its place.
 fn late_reads<I: Index>(rt: &impl Abort, answer: &Answer, index: &Numbered<I>) -> u64 {
     assert_is!(rt; lists_the_first(answer));
     index.late_reads()
 }
 
-// Lane 1 has taken the index for its box, and stays until both puts of lane 2 were answered.
+// Lane 1 has taken the index for its box, and waits until both puts of lane 2 were answered.
 fn puts_overtake_a_box<R: Threads + Wait + Abort + Sync>(rt: &R, alloc: Global) {
     let first = Turn {
         point: GatePoint::Answered,

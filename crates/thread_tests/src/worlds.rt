@@ -37,7 +37,7 @@ fn put_three<I: Index, D: LogDisk, R: Wait>(rt: &R, client: &mut Client<'_, I, D
     let _ = client.put(rt, 4, THERE, 20);
 }
 
-// One is moved, one is moved too late, and one is dropped.
+// One is moved, one is moved too late, and one is removed.
 fn change_three<I: Index, D: LogDisk, R: Wait>(rt: &R, client: &mut Client<'_, I, D, Brand>)
     ensures { Keeps client.old client.new }
 {
@@ -54,7 +54,7 @@ const ONE_MORE: &[Member] = &[
     object!(9, HERE, 10),
 ];
 
-// The objects at first, behind what a client did, and behind what another one did that it never met.
+// The objects at first, after what a client did, and after what another client did that it never met.
 fn worlds<I: Index, D: LogDisk, R: Wait>(
     rt: &R,
     client: &mut Client<'_, I, D, Brand>,
@@ -90,7 +90,7 @@ fn is_told_its_objects<I: Index, D: LogDisk, R: Wait + Abort>(rt: &R, alloc: Glo
     assert_same!(rt; events, 7);
 }
 
-// Around the one place, and around both.
+// Around the one point, and around both.
 const FENCES: &[Fence] = &[
     Fence {
         id: 1,
@@ -108,7 +108,7 @@ const FENCES: &[Fence] = &[
     },
 ];
 
-// The objects before a move of one of them, the place of that, and the objects behind it.
+// The objects before a move of one of them, the place of that move, and the objects after it.
 fn moves_one<I: Index, D: LogDisk, R: Wait>(
     rt: &R,
     client: &mut Client<'_, I, D, Brand>,
@@ -138,7 +138,7 @@ fn is_counted<I: Index, D: LogDisk, R: Wait + Abort>(rt: &R, alloc: Global) {
     counts_on(rt, alloc, &before, place, &after);
 }
 
-// How many are inside each fence.
+// How many objects are inside each fence.
 fn inside(rt: &impl Abort, tally: &Tally) -> [u64; 2] {
     match tally.counts() {
         [one, two] => [one.inside, two.inside],
@@ -153,7 +153,7 @@ const LEFT_ONE: &[Event] = &[Event {
     fence: 1,
 }];
 
-// A tally over the objects before goes on with the move, and has what one over the objects behind it has.
+// A tally over the objects before continues with the move, and then equals a tally over the objects after it.
 fn counts_on(rt: &impl Abort, alloc: Global, before: &World, place: u64, after: &World) {
     let fences = Fences::of(alloc, FENCES).expect(rt, "the fences are at fault");
     let mut tally = Tally::over(alloc, &fences, before).expect(rt, "no memory");

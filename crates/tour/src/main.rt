@@ -1,9 +1,9 @@
 //! Runs several commands in sequence, each as the program would. The exit status is that of the last one. The word `;`
 //! ends a command.
 //!
-//! A command that begins with `from FILE` reads FILE in place of standard input. So does one that begins with
-//! `count FILE`, but it prints how many lines it has in place of the lines. So a play of many sessions can be among the
-//! commands, though its places differ from run to run.
+//! A command that begins with `from FILE` reads FILE instead of standard input. So does one that begins with `count
+//! FILE`, but it prints how many lines the command wrote instead of the lines. So a play of many sessions can be among
+//! the commands, though its places differ from run to run.
 #![tactic(auto)]
 
 use disk_trait::LogDisk;
@@ -64,7 +64,7 @@ fn read_from<R: Threads + Wait + Sync + AllocGlobal + Files + Print, D: LogDisk 
     run_over(rt, words, &mut source, &mut sink, disk, other)
 }
 
-// The same, but prints how many lines the command wrote in place of the lines.
+// The same, but prints how many lines the command wrote instead of the lines.
 fn count<R: Threads + Wait + Sync + AllocGlobal + Files + Print, D: LogDisk + Send>(
     rt: &R,
     file: &str,

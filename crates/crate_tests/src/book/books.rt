@@ -1,4 +1,4 @@
-//! A book over the log that a drive has.
+//! A book over the log on a drive.
 use commit_book::Book;
 use disk_trait::LogDisk;
 use index_layer::Index;
@@ -7,7 +7,7 @@ use split_log::MOST_CELLS;
 use std::alloc::Global;
 use std::process::Abort;
 
-/// A book over the log that a drive has, with buckets of four.
+/// A book over the log on a drive, with buckets of four.
 pub fn book_on<I: Index, D: LogDisk>(rt: &impl Abort, alloc: Global, disk: D) -> Book<I, D> {
     let Ok(opened) = open(alloc, disk, I::WIDTH, MOST_CELLS) else {
         rt.panic("the log isn't opened")

@@ -1,4 +1,4 @@
-//! Calls of a book. They say nothing of it, so that a test's proof knows nothing of what a book promises.
+//! Calls of a book. Their contracts say nothing, so that a test's proof knows nothing of what a book promises.
 ghost use Rattle.std.specs.Prelude.{◌≡◌};
 
 use commit_book::{Book, BookFault, Done, Snapshot};
@@ -10,17 +10,17 @@ use std::alloc::Global;
 use std::process::Abort;
 use zorder::{Name, Point, Region, child};
 
-/// The leaf of the whole space, or the one of the name `0`.
+/// The leaf of the whole space, or the one with the name `0`.
 #[derive(Clone, Copy)]
 pub enum Leaf {
     Whole,
     Zero,
 }
 
-/// What a call is told: its place or a number, a word, and a position with its moment, or two sizes and 0.
+/// The answer to a call: its place or a number, a word, and a position with its moment, or two sizes and 0.
 pub type Told = (u64, &'static str, Option<[u64; 3]>);
 
-/// Of a step that tells no more than that it was taken.
+/// The answer to a step that says only that it was taken.
 pub const TAKEN: Told = (0, "taken", None);
 
 fn name_of(leaf: Leaf) -> Name {
@@ -75,7 +75,7 @@ pub fn relocate<I: Index, D: LogDisk>(
     told(book.update(1, row, &Op::Move { id, at, moment }))
 }
 
-/// Takes an object away.
+/// Removes an object.
 pub fn remove<I: Index, D: LogDisk>(
     book: &mut Book<I, D>,
     row: u32,
@@ -84,7 +84,7 @@ pub fn remove<I: Index, D: LogDisk>(
     told(book.update(1, row, &Op::Remove { id }))
 }
 
-/// Asks where an object is.
+/// Looks up where an object is.
 pub fn find<I: Index, D: LogDisk>(
     book: &mut Book<I, D>,
     row: u32,
@@ -104,7 +104,8 @@ pub fn look<I: Index, D: LogDisk>(
     book.snapshot(1, row, &Op::Within { region })
 }
 
-/// The place of a snapshot, how many rows of the first leaf stand in exactly one of its base and its rows, and how many it has.
+/// The place of a snapshot, how many rows of the first leaf are only in its base or only in its rows, and how many rows
+/// it has.
 pub fn seen_in<I: Index>(seen: &Snapshot<I>) -> Told {
     let (_, bucket) = seen.index.leaf_of(0);
     (
@@ -114,7 +115,7 @@ pub fn seen_in<I: Index>(seen: &Snapshot<I>) -> Told {
     )
 }
 
-/// Begins a split, and tells its number.
+/// Begins a split, and returns its number.
 pub fn begin<I: Index, D: LogDisk>(book: &mut Book<I, D>, leaf: Leaf) -> Result<Told, BookFault> {
     match book.begin(&name_of(leaf)) {
         Ok(ticket) => Ok((ticket.number, "begun", None)),
@@ -148,7 +149,7 @@ pub fn install<I: Index, D: LogDisk>(
     }
 }
 
-/// Gives a split up.
+/// Abandons a split.
 pub fn abandon<I: Index, D: LogDisk>(
     book: &mut Book<I, D>,
     number: u64,
@@ -159,7 +160,7 @@ pub fn abandon<I: Index, D: LogDisk>(
     }
 }
 
-/// Renews a book, and tells how many entries it had and how many more it takes.
+/// Renews a book, and returns how many entries it had and how many more it takes.
 pub fn renew<I: Index, D: LogDisk>(
     rt: &impl Abort,
     alloc: Global,
@@ -173,7 +174,7 @@ pub fn renew<I: Index, D: LogDisk>(
 /// How many cells and entries a book has, and at which cell it is closed.
 pub type Stands = (u64, u64, Option<u64>);
 
-/// How a book stands.
+/// The state of a book.
 pub fn stands<I: Index, D: LogDisk>(book: &Book<I, D>) -> Stands {
     (book.cells(), book.events(), book.closed())
 }

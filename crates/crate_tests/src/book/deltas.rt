@@ -4,7 +4,7 @@ use crate::book::steps::{Step, Taken, follow_fresh};
 use disk_mem::MemDisk;
 use kd_trie::KdTrie;
 
-// Puts objects in an open split, gives it up, and puts one more.
+// Puts objects during an open split, abandons it, and puts one more.
 const STEPS: &[Taken] = &[
     (Step::PutMany(1, 40), Ok(TAKEN), (0, 40, None)),
     (

@@ -1,4 +1,4 @@
-//! Books over a log in memory: the cell of each step, a drive that fails, and what a log brings.
+//! Books over a log in memory: the cell of each step, a drive that fails, and what is read from a log.
 use crate::book::calls::{Leaf, TAKEN};
 use crate::book::steps::{Step, Taken, follow_on};
 use crate::memory::{EMPTY_LOG, disk_of};
@@ -21,7 +21,7 @@ const SPLIT_LOG: &[u8] = b"MDLOCLOG\x02\x01\0\0\0\0\0\0\
     \x01\x06\0\0\0\0\0\0\0\x02\0\0\0\0\0\0\0\0\0\0\0\0\0\0\0\0\0\0\0\0\0\0\
     \0";
 
-// Four rows, a split, and one that is given up.
+// Four rows, a split, and one that is abandoned.
 const ADDING: &[Taken] = &[
     (Step::Stand, Ok(TAKEN), (0, 0, None)),
     (
@@ -53,7 +53,7 @@ const ADDING: &[Taken] = &[
     (Step::Abandon(2), Ok(TAKEN), (5, 8, None)),
 ];
 
-// Takes these steps over the log that a drive has, and gives the drive.
+// Takes these steps over the log on a drive, and returns the drive.
 pub fn drive_behind<I: Index, D: LogDisk>(
     rt: &impl Abort,
     alloc: Global,
@@ -78,13 +78,13 @@ fn a_change_and_a_step_of_a_split_add_a_cell_each(rt: HostRuntime) {
     assert_is!(rt; has_log(&left, SPLIT_LOG));
 }
 
-// Put 7 at (3,5) and move 7 to (4,5), both of moment 10.
+// Put 7 at (3,5) and move 7 to (4,5), both with moment 10.
 const MOVED_LOG: &[u8] = b"MDLOCLOG\x02\x01\0\0\0\0\0\0\
     \x01\x01\0\0\0\0\0\0\0\x07\0\0\0\x03\0\0\0\x05\0\0\0\0\0\0\0\x0a\0\0\0\0\0\0\
     \x01\x02\0\0\0\0\0\0\0\x07\0\0\0\x04\0\0\0\x05\0\0\0\0\0\0\0\x0a\0\0\0\0\0\0\
     \0";
 
-// A late move, one of an equal moment, and a put of a greater one.
+// A late move, one with an equal moment, and a put with a greater one.
 const MOVING: &[Taken] = &[
     (
         Step::Put(1, 7, at!(3, 5, 10)),
@@ -113,7 +113,7 @@ const MOVING: &[Taken] = &[
     ),
 ];
 
-// A late move, moves to the point where the object is, and a put behind a drop, over the log of those.
+// A late move, moves to the point where the object is, and a put after a removal, over the log of those.
 const MOVING_ON: &[Taken] = &[
     (
         Step::Move(1, 7, at!(3, 5, 9)),
@@ -164,7 +164,7 @@ fn is_lost_put(entries: &[Entry]) -> bool {
     }
 }
 
-// Whether the put of 7 at (3,5) of moment 10 was lost, the first row.
+// Whether the put of 7 at (3,5) with moment 10, the first row, was lost.
 fn is_put_of_7(lost: &Lost) -> bool {
     match lost {
         Lost::Call {
@@ -176,7 +176,7 @@ fn is_put_of_7(lost: &Lost) -> bool {
     }
 }
 
-// A put whose append fails, and one behind it.
+// A put whose append fails, and one after it.
 const CLOSING: &[Taken] = &[
     (
         Step::Put(1, 7, at!(3, 5, 10)),
@@ -190,7 +190,7 @@ const CLOSING: &[Taken] = &[
     ),
 ];
 
-// Whether a book was left with the lost put alone, and with no rows in the leaf of (3,5).
+// Whether a book has the lost put alone, and no rows in the leaf of (3,5).
 fn has_lost_its_put<I: Index, D: LogDisk>(book: Book<I, D>) -> bool {
     let parts = book.into_parts();
     parts.index.leaf_of(27).1.count() == 0 && is_lost_put(parts.entries.as_slice())
@@ -206,7 +206,7 @@ fn closes(rt: &impl Abort, alloc: Global, call: DiskCall, number: u64) -> bool {
     closes_for_good::<KdTrie, MemDisk>(rt, alloc, disk)
 }
 
-// An opening syncs once, and an append writes, syncs, writes and syncs.
+// An opening syncs once. An append writes, syncs, writes and syncs.
 const CALLS: &[(DiskCall, u64)] = &[
     (DiskCall::Write, 1),
     (DiskCall::Sync, 2),
@@ -221,7 +221,7 @@ fn a_put_whose_append_fails_closes_the_book(rt: HostRuntime) {
     }
 }
 
-// A row that asks for what the log has, one that finds it there, and splits.
+// A row that looks up what the log has, one that finds it there, and splits.
 const GOING_ON: &[Taken] = &[
     (Step::Stand, Ok(TAKEN), (5, 0, None)),
     (

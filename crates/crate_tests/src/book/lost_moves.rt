@@ -1,4 +1,5 @@
-//! A move to the point where the object is, whose append fails: a book that is opened again finds the old moment or the new one.
+//! A move to the point where the object is, whose append fails. A book that is opened again finds the old moment or the
+//! new one.
 use crate::book::logged::drive_behind;
 use crate::book::steps::{Step, Taken};
 use crate::logs::fixtures::ONE_CELL;
@@ -9,7 +10,7 @@ use kd_trie::KdTrie;
 use std::alloc::Global;
 use std::process::Abort;
 
-// Over a log of put 7 at (3,5), of moment 10.
+// Over a log of put 7 at (3,5), with moment 10.
 const STAYING: &[Taken] = &[(
     Step::Move(1, 7, at!(3, 5, 12)),
     Err(BookFault::Disk { cell: 1 }),
@@ -28,7 +29,8 @@ const NEW: &[Taken] = &[(
     (2, 1, None),
 )];
 
-// The call that fails, what is found in the file then, and in an image whose free bytes are 1: with any others a crash leaves the old log.
+// The call that fails. Then what is found in the file, and in an image whose free bytes are 1. With any other free
+// bytes a crash leaves the old log.
 const CALLS: &[(DiskCall, u64, &[Taken], &[Taken])] = &[
     (DiskCall::Write, 1, OLD, OLD),
     (DiskCall::Sync, 2, OLD, OLD),
@@ -36,7 +38,7 @@ const CALLS: &[(DiskCall, u64, &[Taken], &[Taken])] = &[
     (DiskCall::Sync, 3, NEW, NEW),
 ];
 
-// What the move leaves where this call fails.
+// What the move leaves if this call fails.
 fn left_by(rt: &impl Abort, alloc: Global, call: DiskCall, number: u64) -> MemDisk {
     let disk = disk_of(rt, alloc, ONE_CELL, &[Fail { call, number }]);
     match drive_behind::<KdTrie, MemDisk>(rt, alloc, disk, STAYING) {
@@ -50,7 +52,7 @@ fn is_found(rt: &impl Abort, alloc: Global, bytes: &[u8], steps: &[Taken]) {
     let _left = drive_behind::<KdTrie, MemDisk>(rt, alloc, disk, steps);
 }
 
-// What is found in the least and in the greatest image with this in each free byte.
+// What is found in the smallest and in the greatest image with this value in each free byte.
 fn is_found_in_images(rt: &impl Abort, alloc: Global, disk: &MemDisk, fill: u8, steps: &[Taken]) {
     for len in [0, 1_024] {
         let image = disk

@@ -1,4 +1,4 @@
-//! Books that go on with an empty history, and what their log brings then.
+//! Books that continue with an empty history, and what is read from their log then.
 use crate::book::calls::Leaf;
 use crate::book::logged::drive_behind;
 use crate::book::steps::{Step, Taken, follow_fresh};

@@ -1,9 +1,9 @@
-//! Snapshots, which a book hands out and goes on.
+//! Snapshots of a book that continues.
 use crate::book::steps::{Step, Taken, follow_fresh};
 use disk_mem::MemDisk;
 use kd_trie::KdTrie;
 
-// A snapshot that is kept over a put, and one behind it.
+// A snapshot that is kept over a put, and one after it.
 const STEPS: &[Taken] = &[
     (
         Step::Put(1, 7, at!(3, 5)),

@@ -14,7 +14,7 @@ use std::process::Abort;
 /// A row of session 1, or a step of a split.
 #[derive(Clone, Copy)]
 pub enum Step {
-    /// None at all.
+    /// No step.
     Stand,
     /// Puts an object, by the row, its id and its position.
     Put(u32, u64, Stamped),
@@ -22,22 +22,22 @@ pub enum Step {
     Drop(u32, u64),
     /// Puts so many objects with rising ids, from this one on, at points of their own.
     PutMany(u32, u32),
-    /// Asks where an object is.
+    /// Looks up where an object is.
     Find(u32, u64),
     /// Takes a snapshot.
     Look(u32),
-    /// Takes a snapshot, and looks at it behind the put of 8 at (4,4) in the next row.
+    /// Takes a snapshot, and looks at it after the put of 8 at (4,4) in the next row.
     LookOverPut(u32),
     Begin(Leaf),
     Split(Leaf),
     /// Installs a split twice.
     SplitTwice(Leaf),
     Abandon(u64),
-    /// Goes on with an empty history.
+    /// Continues with an empty history.
     Renew,
 }
 
-/// A step, what the book tells of it, and how it stands then.
+/// A step, the book's answer to it, and the state of the book then.
 pub type Taken = (Step, Result<Told, BookFault>, Stands);
 
 fn put_many<I: Index, D: LogDisk>(
@@ -140,7 +140,7 @@ pub fn follow_fresh<I: Index, D: LogDisk>(
     follow(rt, alloc, &mut book, steps);
 }
 
-/// Takes these steps in a book over the log that a drive has, and gives the book.
+/// Takes these steps in a book over the log on a drive, and returns the book.
 pub fn follow_on<I: Index, D: LogDisk>(
     rt: &impl Abort,
     alloc: Global,

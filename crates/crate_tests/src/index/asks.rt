@@ -16,7 +16,7 @@ fn expect_list(rt: &impl Abort, list: &PlacedList, wanted: &[Placed]) {
     assert_same!(rt; list.as_slice(), wanted);
 }
 
-/// Fails unless these are in a box, as a list and as a number.
+/// Fails unless these objects are in a box, as a list and as a number.
 pub(crate) fn expect_box<I: Index, L: Ledger>(
     rt: &impl Abort,
     alloc: Global,
@@ -32,7 +32,7 @@ pub(crate) fn expect_box<I: Index, L: Ledger>(
     assert_same!(rt; count_in(index, region, steps), wanted.len() as u64);
 }
 
-/// Fails unless these are the nearest to a point, up to so many of them.
+/// Fails unless these are the nearest objects to a point, at most `k` of them.
 pub(crate) fn expect_near<I: Index, L: Ledger>(
     rt: &impl Abort,
     alloc: Global,

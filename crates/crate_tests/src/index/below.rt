@@ -1,4 +1,4 @@
-//! How many rows an index has below each of its places, beside a plain list, after drawn changes and splits.
+//! How many rows an index has below each of its places, compared with a plain list, after drawn changes and splits.
 
 use crate::index::buckets::{change, one_empty_leaf};
 use crate::index::changes::{drawn, put, shift, take};
@@ -20,14 +20,14 @@ const TURNS: u64 = 1_000;
 // No leaf's name has more bits.
 const MOST_BITS: u8 = 10;
 
-// An object comes, goes or moves.
+// An object is put, removed or moved.
 fn change_one<I: Index>(
     index: &mut I,
     id: u64,
     at: &mut Option<u64>,
     draw: u64,
 ) -> Result<bool, Undone> {
-    // Half of the keys lie in one eighth of the space.
+    // Half of the keys are in one eighth of the space.
     let to = if draw & 16 == 0 {
         draw << 8
     } else {

@@ -1,4 +1,4 @@
-//! Buckets that indexes are made of.
+//! Buckets for the indexes of the tests.
 ghost use Rattle.std.specs.Prelude.{◌≡◌, ◌*◌, [], ◌∷◌, false, take, IfOk};
 ghost use Rattle.std.specs.Arc.{arc_value};
 ghost use Rattle.zorder.specs.Key.{key_bits};
@@ -29,7 +29,7 @@ pub(crate) fn one_empty_leaf<I: Index>(alloc: Global) -> Result<I, Memory>
     I::whole(alloc, empty(alloc)?)
 }
 
-/// The name of the leaf that a key is under, where the whole space was split once.
+/// The name of the leaf that a key is under, if the whole space was split once.
 pub(crate) fn child_over<I: Index>(key: u64) -> Name
     ensures { result ≡ take I.WIDTH (key_bits key) }
 {
@@ -55,7 +55,7 @@ fn split_in_four<I: Index>(alloc: Global, whole: &I) -> Result<I, IndexFault>
     whole.split(&Name::whole(), &[first, second, third, fourth])
 }
 
-/// An index with empty leaves in the place of the whole space.
+/// An index in which empty leaves replace the whole space.
 pub(crate) fn split_whole<I: Index>(alloc: Global, whole: &I) -> Result<I, IndexFault> {
     if I::WIDTH == 1 {
         split_in_two(alloc, whole)
@@ -97,7 +97,7 @@ pub(crate) fn leaves_over<I: Index>(alloc: Global, objects: &[Placed]) -> Result
     }
 }
 
-/// Three rows on a base of two, all in the first leaf of two, and of four.
+/// Three rows on a base of two, all in the first of two leaves, and of four.
 fn three_rows(alloc: Global) -> Result<Arc<Bucket>, BucketFault>
     ensures { IfOk result (λ b. AreUnder (false ∷ []) (arc_value b).rows × AreUnder (false ∷ false ∷ []) (arc_value b).rows) }
 {
@@ -115,7 +115,7 @@ pub(crate) fn filled<I: Index>(rt: &impl Abort, alloc: Global, index: &I) -> I {
         .expect(rt, "an index")
 }
 
-/// A row that comes or goes.
+/// A row that is added or removed.
 pub(crate) fn change(key: u64, id: u64, keeps_base: bool) -> RowChange
     ensures { result.row ≡ record { key = key; id = id } }
 {

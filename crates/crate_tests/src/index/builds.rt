@@ -1,4 +1,4 @@
-//! An index that is made over a world, with given leaves.
+//! An index that is built over a world, with given leaves.
 use crate::checks::same_bucket;
 use crate::index::buckets::{child_over, leaves_over};
 use bucket_versions::Row;

@@ -34,14 +34,14 @@ fn has_their_parts<I: Index>(rt: &impl Abort, index: &I) {
     assert_is!(rt; matches!(index.part(&grandchild_over::<I>(0)), Part::Outside));
 }
 
-// No bucket is put where no leaf has the name.
+// No bucket is inserted if no leaf has the name.
 fn refuses_a_name_below<I: Index>(rt: &impl Abort, alloc: Global, index: &I) {
     let bucket = empty(alloc).expect(rt, "no rows");
     let refused = index.replaced(&grandchild_over::<I>(0), bucket).err();
     assert_is!(rt; matches!(refused, Some(IndexFault::NoLeaf { name: _ })));
 }
 
-// How many rows the leaf of a key has, and how many of them or of its base alone.
+// How many rows the leaf of a key has, and the length of its delta.
 fn sizes<I: Index>(index: &I, key: u64) -> (u64, u64) {
     let (_, bucket) = index.leaf_of(key);
     (bucket.count(), bucket.delta_len())

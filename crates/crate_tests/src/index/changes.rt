@@ -1,4 +1,4 @@
-//! Rows that come, go and move in an index, with their bases and without, and a snapshot behind many of them.
+//! Rows that are added, removed and moved in an index, with their bases and without, and a snapshot after many of them.
 ghost use Rattle.std.specs.Prelude.{true, false, IsTrue, IsFalse};
 ghost use Rattle.index_layer.specs.RowChanges.{Holds};
 
@@ -57,7 +57,7 @@ pub(crate) fn take<I: Index>(index: &mut I, gone: RowChange) -> Result<bool, Und
     }
 }
 
-// How many rows the first leaf has, and how many of them or of its base alone.
+// How many rows the first leaf has, and the length of its delta.
 fn first_leaf<I: Index>(index: &I) -> (u64, u64) {
     let (_, bucket) = index.leaf_of(0);
     (bucket.count(), bucket.delta_len())
@@ -88,13 +88,13 @@ macro_rules! row {
     };
 }
 
-// Changes, and what the first leaf then has.
+// Changes, and what the first leaf has then.
 const CHANGED: &[(Change, (u64, u64))] = &[
     (Change::Put(row!(1, 9, false)), (1, 0)),
     (Change::Put(row!(27, 7, false)), (2, 0)),
     (Change::Put(row!(2, 4, true)), (3, 1)),
     (Change::Shift(row!(27, 7, true), row!(3, 7, true)), (3, 3)),
-    // Without (3,7) the rows are the base, and (5,7) comes to them.
+    // Without (3,7) the rows are the base, and (5,7) is added to them.
     (Change::Shift(row!(3, 7, false), row!(5, 7, true)), (3, 1)),
     (Change::Take(row!(1, 9, true)), (2, 2)),
     (Change::Take(row!(2, 4, false)), (1, 0)),
@@ -137,7 +137,7 @@ fn first_keys() -> [u64; 64] {
     keys
 }
 
-// Moves an object to a key, and says how many were moved.
+// Moves an object to a key, and returns how many were moved.
 fn move_to<I: Index>(
     index: &mut I,
     id: u64,
@@ -152,7 +152,7 @@ fn move_to<I: Index>(
     Ok(1)
 }
 
-// Moves objects that are drawn to keys that are drawn, each third time on the old base.
+// Moves drawn objects to drawn keys, each third time on the old base.
 fn move_many<I: Index>(index: &mut I) -> Result<u64, Undone> {
     let mut keys = first_keys();
     let mut seed = 42;
@@ -168,7 +168,7 @@ fn move_many<I: Index>(index: &mut I) -> Result<u64, Undone> {
     Ok(moved)
 }
 
-// Of how many objects the index has the row that they had first.
+// How many objects have their first row in the index.
 fn unmoved<I: Index>(index: &I) -> u64 {
     let mut there = 0_u64;
     for id in 0..OBJECTS {
@@ -183,7 +183,7 @@ fn unmoved<I: Index>(index: &I) -> u64 {
     there
 }
 
-// The first keys of four parts of the key space: each leaf begins with one of them.
+// The first keys of four parts of the key space. Each leaf begins with one of them.
 const QUARTERS: &[u64] = &[0, 1 << 62, 1 << 63, 3 << 62];
 
 fn how_many<I: Index>(index: &I) -> u64 {
@@ -206,7 +206,7 @@ fn keeps_its_rows_through_many_changes<I: Index>(rt: &impl Abort, alloc: Global)
     expect_rows(rt, &before, &index);
 }
 
-// Each object is there, in the share as at first and in the index elsewhere.
+// Each object is there: in the share as at first, and in the index elsewhere.
 fn expect_rows<I: Index>(rt: &impl Abort, before: &I, index: &I) {
     assert_same!(rt; (how_many(before), unmoved(before)), (OBJECTS, OBJECTS));
     assert_same!(rt; (how_many(index), unmoved(index)), (OBJECTS, 0));

@@ -1,5 +1,5 @@
-//! A spot of many objects, beside a leaf whose split is open: objects go from it and come back, each first behind a step that fails,
-//! while shares are held.
+//! A spot of many objects, next to a leaf whose split is open. Objects leave it and come back, each first in a step
+//! that fails, while shares are held.
 use crate::index::buckets::{change, empty_leaves};
 use crate::index::changes::{drawn, holds, put};
 use crate::index::never::Never;
@@ -12,7 +12,7 @@ use std::alloc::{AllocError, Global};
 use std::process::Abort;
 use zorder::Name;
 
-// From 1,024 rows on a leaf changes a delta alone.
+// From 1,024 rows on, a leaf changes a delta alone.
 const OBJECTS: u64 = 1_100;
 
 const MOVES: u64 = 1_500;
@@ -26,7 +26,7 @@ fn key_of(is_away: bool) -> u64 {
     if is_away { AWAY } else { SPOT }
 }
 
-// An object that comes or goes. The leaf beside the spot has an open split, so its base is kept.
+// An object that comes or goes. The leaf next to the spot has an open split, so its base is kept.
 fn change_of(id: u64, is_away: bool) -> RowChange {
     change(key_of(is_away), id, is_away)
 }
@@ -46,7 +46,7 @@ fn put_all<I: Index>(index: &mut I) -> Result<(), Undone> {
     Ok(())
 }
 
-// Moves an object that is there to where it isn't.
+// Moves an object to the place where it isn't.
 fn pass<I: Index, C: Commit>(
     index: &mut I,
     id: u64,
@@ -65,14 +65,14 @@ fn pass<I: Index, C: Commit>(
     }
 }
 
-// Moves an object in the index, and in what is told of it.
+// Moves an object in the index, and in the list of where each one is.
 fn pass_both<I: Index>(rt: &impl Abort, index: &mut I, id: u64, is_away: &mut bool) {
     assert_same!(rt; pass(index, id, *is_away, &mut Never), Err(Undone::Lost));
     pass(index, id, *is_away, &mut AtOnce).expect(rt, "it failed");
     *is_away = !*is_away;
 }
 
-// Moves objects that are drawn, with a share held that is some moves old.
+// Moves drawn objects, with a share held that is some moves old.
 fn pass_many<I: Index>(rt: &impl Abort, index: &mut I, away: &mut [bool]) {
     let mut held = index.share().expect(rt, "it failed");
     let mut seed = 9;
@@ -89,7 +89,7 @@ fn pass_many<I: Index>(rt: &impl Abort, index: &mut I, away: &mut [bool]) {
     let _held = held;
 }
 
-// Fails unless each object is where it is told to be, and nothing else is there.
+// Fails unless each object is where the list says, and nothing else is there.
 fn expect_there<I: Index>(rt: &impl Abort, index: &I, away: &[bool]) {
     for (id, is_away) in away.iter().enumerate() {
         assert_is!(rt; holds(index, &change_of(id as u64, *is_away).row));

@@ -1,4 +1,4 @@
-//! Objects at the corners of the plane, and objects that are all as far.
+//! Objects at the corners of the plane, and objects at the same distance.
 use crate::index::asks::{expect_box, expect_near};
 use crate::index::buckets::leaves_over;
 use index_layer::Index;
@@ -33,7 +33,7 @@ const LOW: u32 = 2_147_483_647;
 
 const HIGH: u32 = 2_147_483_649;
 
-// One in each quarter, each as far from the middle, and the first three of them.
+// One in each quarter, all at the same distance from the middle, and the first three of them.
 const AROUND_THE_MIDDLE: &[Placed] = &[
     placed!(1, HIGH, HIGH),
     placed!(2, HIGH, LOW),
@@ -68,7 +68,7 @@ const CENTRE: Point = Point {
     y: MIDDLE,
 };
 
-/// A near ranks objects by their ids where all are as far.
+/// A nearest-neighbour query ranks objects at the same distance by their ids.
 pub(crate) fn ranks_by_id_where_all_are_as_far<I: Index, L: Ledger>(
     rt: &impl Abort,
     alloc: Global,

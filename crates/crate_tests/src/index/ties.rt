@@ -1,4 +1,4 @@
-//! Objects that are as far from a point as others: on a circle, on one point, and on a ring of points.
+//! Objects at the same distance from a point: on a circle, at one point, and on a ring of points.
 use crate::index::asks::expect_near;
 use crate::index::buckets::leaves_over;
 use crate::worlds::world_of;
@@ -23,7 +23,7 @@ macro_rules! at {
     };
 }
 
-// Each is 5 away from the centre.
+// Each is at distance 5 from the centre.
 const CIRCLE: &[Point] = &[
     at!(MIDDLE + 5, MIDDLE),
     at!(MIDDLE + 4, MIDDLE + 3),
@@ -35,7 +35,7 @@ const CIRCLE: &[Point] = &[
     at!(MIDDLE + 3, MIDDLE - 4),
 ];
 
-// So many on each of some points. The ids are all different, and don't rise with the keys.
+// So many at each of some points. The ids are all different, and don't rise with the keys.
 fn on_each(alloc: Global, points: &[Point], each: u8) -> Result<Vec<Placed>, Memory> {
     let mut objects = Vec::new(alloc);
     let mut id = 7_u64;
@@ -55,7 +55,7 @@ fn near_in(rt: &impl Abort, alloc: Global, world: &World, at: Point, k: u32) -> 
     }
 }
 
-// Nears of fewer than there are, of as many and of more answer what the plain list does.
+// Nearest-neighbour queries for fewer objects than there are, for as many and for more return what the plain list does.
 fn agrees_at<I: Index, L: Ledger>(
     rt: &impl Abort,
     alloc: Global,
@@ -72,7 +72,7 @@ fn agrees_at<I: Index, L: Ledger>(
     }
 }
 
-/// Ids decide among objects that are as far, however many of them a near may have.
+/// Ids decide among objects at the same distance, however many of them a query may return.
 pub(crate) fn agrees_with_the_plain_list_on_ties<I: Index, L: Ledger>(
     rt: &impl Abort,
     alloc: Global,

@@ -11,7 +11,7 @@ use std::alloc::Global;
 use std::process::Abort;
 use zorder::{Memory, Name, Placed, Point, begins, child};
 
-// The keys of the objects: their first bits are 000 and 001.
+// The keys of the objects. Their first bits are 000 and 001.
 const FIRST: u64 = 0;
 
 const SECOND: u64 = 2_305_843_009_213_693_952;
@@ -99,7 +99,7 @@ fn has_halves<P>(below: Below<'_, P>) -> bool {
     }
 }
 
-// Where walks between the two objects, at the first one and over all objects begin.
+// Where walks begin: between the two objects, at the first one, and over all objects.
 fn begins_at<I: Index>(rt: &impl Abort, alloc: Global, both: Name, first: Name, all: Name) {
     let index = sparse::<I>(alloc).expect(rt, "it failed");
     begins_between(rt, &index, both);

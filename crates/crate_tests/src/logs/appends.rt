@@ -9,10 +9,12 @@ use split_log::{AppendFault, SplitLog};
 use std::alloc::Global;
 use std::process::Abort;
 
-/// How a log stands behind an append: why that failed, the cell at which the log is closed, and how many cells there are.
+/// The state of a log after an append: why that failed, the cell at which the log is closed, and how many cells there
+/// are.
 pub type Appended = (Option<AppendFault>, Option<u64>, u64);
 
-/// What an append leaves: how the log stands, the bytes of the file, an image that a crash may leave now, and the clock.
+/// What an append leaves: the state of the log, the bytes of the file, an image that a crash may leave now, and the
+/// clock.
 #[derive(Drop)]
 pub struct Left {
     pub appended: Appended,
@@ -40,8 +42,8 @@ fn stands<D: LogDisk>(log: &SplitLog<D>, fault: Option<AppendFault>) -> Appended
     (fault, log.failed(), log.cells())
 }
 
-/// Appends a cell to the log in a file with these bytes, where these calls of the drive fail, and picks the image with a length near to
-/// `len` and `fill` in each free byte.
+/// Appends a cell to the log in a file with these bytes, while these calls of the drive fail. Picks the image whose
+/// length is nearest to `len`, with `fill` in each free byte.
 pub fn append_in(
     rt: &impl Abort,
     alloc: Global,
@@ -73,10 +75,10 @@ fn left_by(
     }
 }
 
-/// What a journal tells behind an append: its cells, where it is closed, and whether it is full.
+/// What a journal returns after an append: its cells, where it is closed, and whether it is full.
 pub type Kept = (u64, Option<u64>, bool);
 
-/// The same of the log in a file with these bytes, and how long the file is then.
+/// The same for the log in a file with these bytes, and the length of the file then.
 pub fn journal_of(rt: &impl Abort, alloc: Global, bytes: &[u8], cell: &Cell) -> (Kept, usize) {
     let disk = disk_of(rt, alloc, bytes, &[]);
     let (kept, disk) = kept_on(rt, alloc, disk, cell);

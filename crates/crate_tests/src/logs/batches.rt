@@ -44,7 +44,7 @@ fn stands<D: LogDisk>(log: &SplitLog<D>, fault: Option<AppendAllFault>) -> Added
     (fault, log.failed(), log.cells())
 }
 
-// The drive of the log of put 7 after that, where these calls fail, and how the log stands.
+// The drive of the log of put 7 after that, if these calls fail, and the state of the log.
 fn added(rt: &impl Abort, alloc: Global, batch: &[Cell], failing: &[Fail]) -> (Added, MemDisk) {
     add_on(rt, alloc, disk_of(rt, alloc, ONE_CELL, failing), batch)
 }
@@ -56,7 +56,7 @@ fn with_all(rt: &impl Abort, alloc: Global, batch: &[Cell]) -> Vec<u8> {
     log_of(rt, alloc, cells.as_slice(), &[0])
 }
 
-// Images by their length and what is in each free byte.
+// Images by their length and the value of each free byte.
 const IMAGES: &[(u64, u8)] = &[
     (49, 0),
     (80, 1),
@@ -80,7 +80,7 @@ fn expect_logs(rt: &impl Abort, disk: &MemDisk, moment: u64, one: &[u8], other: 
     }
 }
 
-// The same at each moment, of the log of put 7, and of that and a batch.
+// The same at each moment, for the log of put 7, and for that log with a batch.
 fn expect_all_or_none(rt: &impl Abort, alloc: Global, disk: &MemDisk, batch: &[Cell]) {
     let all = with_all(rt, alloc, batch);
     for moment in 0..disk.moments() {
@@ -88,7 +88,7 @@ fn expect_all_or_none(rt: &impl Abort, alloc: Global, disk: &MemDisk, batch: &[C
     }
 }
 
-// The opening's sync is the first moment, and a batch of any cells has four more.
+// The opening's sync is the first moment, and a batch has four more, however many cells it has.
 #[test]
 fn a_batch_is_added_by_four_calls(rt: HostRuntime) {
     for (len, moments) in [(0_usize, 1), (1, 5), (3, 5)] {
@@ -102,7 +102,7 @@ fn a_batch_is_added_by_four_calls(rt: HostRuntime) {
     }
 }
 
-// Each call of an append, by its number among its kind, and the clock after it: the opening's sync is the first.
+// Each call of an append, by its number among its kind, and the clock after it. The opening's sync is the first.
 const CALLS: &[(DiskCall, u64, u64)] = &[
     (DiskCall::Write, 1, 2),
     (DiskCall::Sync, 2, 3),
@@ -112,7 +112,7 @@ const CALLS: &[(DiskCall, u64, u64)] = &[
 
 const LOST: Added = (Some(AppendAllFault::Disk { cell: 1 }), Some(1), 1);
 
-// Fails unless a batch is lost where this call fails, and each image of a crash has all of it or none.
+// Fails unless a batch is lost if this call fails, and each image of a crash has all of it or none.
 fn expect_lost(rt: &impl Abort, alloc: Global, failing: Fail, moments: u64, batch: &[Cell]) {
     let (added, disk) = added(rt, alloc, batch, &[failing]);
     assert_same!(rt; (added, disk.moments()), (LOST, moments));
@@ -126,7 +126,7 @@ fn expect_lost(rt: &impl Abort, alloc: Global, failing: Fail, moments: u64, batc
     expect_logs(rt, &disk, moments, ONE_CELL, other);
 }
 
-// Where the first write or the first sync fails, none of the cells is in an image.
+// If the first write or the first sync fails, no image has any of the cells.
 #[test]
 fn a_batch_that_is_lost_leaves_all_of_its_cells_or_none(rt: HostRuntime) {
     for (call, number, moments) in CALLS {
@@ -139,7 +139,7 @@ fn a_batch_that_is_lost_leaves_all_of_its_cells_or_none(rt: HostRuntime) {
     }
 }
 
-// Whether a journal on the log takes a batch, how many cells it has then, and the drive.
+// Whether a journal on the log accepts a batch, how many cells it has then, and the drive.
 fn keep_on<D: LogDisk>(rt: &impl Abort, alloc: Global, disk: D, batch: &[Cell]) -> (bool, u64, D) {
     let Ok(opened) = open(alloc, disk, 1, 16) else {
         rt.panic("the log isn't opened")

@@ -11,7 +11,7 @@ use std::alloc::Global;
 use std::process::Abort;
 use zorder::Point;
 
-// Put 7 at (3,5), of moment 10, and a split of the empty name that was begun twice.
+// Put 7 at (3,5), with moment 10, and a split of the empty name that was begun twice.
 const OLD: &[u8] = b"MDLOCLOG\x02\x01\0\0\0\0\0\0\
     \x01\x01\0\0\0\0\0\0\0\x07\0\0\0\x03\0\0\0\x05\0\0\0\0\0\0\0\x0a\0\0\0\0\0\0\
     \x01\x04\0\0\0\0\0\0\0\x01\0\0\0\0\0\0\0\0\0\0\0\0\0\0\0\0\0\0\0\0\0\0\
@@ -35,7 +35,8 @@ const SEVEN: Member = Member {
 // Three cells of version 2, one split begun and ended, two leaves, and one object.
 const BEGUN: Found = ([2, 3, 1, 0], (2, false), (1, Some(SEVEN)));
 
-// Begins a log with the objects and the leaves of the log on a drive: what is said of it and how many cells it has, or why there is none.
+// Begins a log with the objects and the leaves of the log on a drive. Returns what is found in it and how many cells it
+// has, or why there is none.
 fn begin_on<D: LogDisk, T: LogDisk>(
     rt: &impl Abort,
     alloc: Global,
@@ -58,7 +59,7 @@ fn begin_on<D: LogDisk, T: LogDisk>(
     }
 }
 
-// The target behind that, where these calls fail.
+// The target after that, if these calls fail.
 fn begun(
     rt: &impl Abort,
     alloc: Global,
@@ -77,7 +78,7 @@ fn a_log_begins_with_a_world_and_its_leaves(rt: HostRuntime) {
     same_bytes(&rt, target.bytes(), NEW);
 }
 
-// A write and a sync make the log, and a write, a sync, a write and a sync its cells.
+// A write and a sync create the log. A write, a sync, a write and a sync add its cells.
 const CALLS: &[(DiskCall, u64, u64)] = &[
     (DiskCall::Write, 1, 1),
     (DiskCall::Sync, 1, 2),

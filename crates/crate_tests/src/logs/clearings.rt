@@ -1,4 +1,4 @@
-//! A log that is made one of no cells.
+//! A log whose cells are all removed.
 use crate::checks::same_bytes;
 use crate::logs::fixtures::ONE_CELL;
 use crate::memory::{EMPTY_LOG, disk_of};
@@ -9,14 +9,14 @@ use recovery::open;
 use std::alloc::Global;
 use std::process::Abort;
 
-// The same log with another byte in place of its first commit byte.
+// The same log with another value of its first commit byte.
 const CLEARED: &[u8] =
     b"MDLOCLOG\x02\x01\0\0\0\0\0\0\0\x01\0\0\0\0\0\0\0\x07\0\0\0\x03\0\0\0\x05\0\0\0\0\0\0\0\x0a\0\0\0\0\0\0\0";
 
 const TORN: &[u8] =
     b"MDLOCLOG\x02\x01\0\0\0\0\0\0\x09\x01\0\0\0\0\0\0\0\x07\0\0\0\x03\0\0\0\x05\0\0\0\0\0\0\0\x0a\0\0\0\0\0\0\0";
 
-// Opens the log on a drive, which takes a sync, and clears it. It says whether that was done.
+// Opens the log on a drive, which takes a sync, and clears it. Returns whether that was done.
 fn clear_on<D: LogDisk>(rt: &impl Abort, alloc: Global, disk: D) -> (bool, D) {
     let Ok(opened) = open(alloc, disk, 1, 16) else {
         rt.panic("the log isn't opened")
@@ -27,7 +27,7 @@ fn clear_on<D: LogDisk>(rt: &impl Abort, alloc: Global, disk: D) -> (bool, D) {
     }
 }
 
-// The drive behind the clearing of a log, where these calls fail.
+// The drive after the clearing of a log, if these calls fail.
 fn cleared(
     rt: &impl Abort,
     alloc: Global,
@@ -40,7 +40,7 @@ fn cleared(
     disk
 }
 
-// Fails unless a crash at a moment leaves this image, of those with this length the one with this byte in each free place.
+// Fails unless a crash at a moment leaves this image: the one of this length with this value in each free byte.
 fn expect_image(rt: &impl Abort, disk: &MemDisk, moment: u64, len: u64, fill: u8, wanted: &[u8]) {
     let image = disk.pick(moment, len, &[fill]).expect(rt, "no image");
     same_bytes(rt, image.as_slice(), wanted);
@@ -54,7 +54,7 @@ fn a_log_is_cleared_by_four_calls(rt: HostRuntime) {
     assert_same!(rt; disk.moments(), 5);
 }
 
-// The write may leave any commit byte, and from the sync behind it on it is clear; the cut may leave any bytes behind that.
+// The write may leave any commit byte, which is clear from the next sync on. The cut may leave any bytes after it.
 #[test]
 fn a_crash_in_a_clearing_leaves_the_log_or_none_of_it(rt: HostRuntime) {
     let disk = cleared(&rt, rt.alloc(), ONE_CELL, &[], true);
@@ -80,7 +80,7 @@ fn a_log_of_no_cells_is_left(rt: HostRuntime) {
     assert_same!(rt; disk.moments(), 1);
 }
 
-// Each call of a clearing, by its number among its kind, and the clock behind it: the opening's sync is the first.
+// Each call of a clearing, by its number among its kind, and the clock after it. The opening's sync is the first.
 const CALLS: &[(DiskCall, u64, u64)] = &[
     (DiskCall::Write, 1, 2),
     (DiskCall::Sync, 2, 3),

@@ -1,4 +1,4 @@
-//! A log whose splits make four children, written anew.
+//! A log whose splits create four children, written as a fresh log.
 use crate::checks::same_bytes;
 use crate::memory::disk_of;
 use disk_trait::LogDisk;
@@ -7,7 +7,7 @@ use recovery::inspect;
 use std::alloc::Global;
 use std::process::Abort;
 
-// Put 7 at (3,5), of moment 10, and splits of the empty name, of `11` and of `00`.
+// Put 7 at (3,5), with moment 10, and splits of the empty name, of `11` and of `00`.
 const GROWN: &[u8] = b"MDLOCLOG\x02\x02\0\0\0\0\0\0\
     \x01\x01\0\0\0\0\0\0\0\x07\0\0\0\x03\0\0\0\x05\0\0\0\0\0\0\0\x0a\0\0\0\0\0\0\
     \x01\x04\0\0\0\0\0\0\0\x01\0\0\0\0\0\0\0\0\0\0\0\0\0\0\0\0\0\0\0\0\0\0\
@@ -29,7 +29,7 @@ const FRESH: &[u8] = b"MDLOCLOG\x02\x02\0\0\0\0\0\0\
     \x01\x01\0\0\0\0\0\0\0\x07\0\0\0\x03\0\0\0\x05\0\0\0\0\0\0\0\x0a\0\0\0\0\0\0\
     \0";
 
-// Inspects the log on a drive, and writes it anew on a target. It gives how many cells that has, and the target.
+// Inspects the log on a drive, and writes a fresh log on a target. Returns how many cells that has, and the target.
 fn anew_on<D: LogDisk, T: LogDisk>(alloc: Global, disk: &mut D, target: T) -> Option<(u64, T)> {
     let Ok(seen) = inspect(alloc, disk, 2, 100) else {
         return None;
@@ -42,7 +42,7 @@ fn anew_on<D: LogDisk, T: LogDisk>(alloc: Global, disk: &mut D, target: T) -> Op
     }
 }
 
-// Fails unless a log is written so anew.
+// Fails unless the fresh log of this log has these bytes.
 fn expect_anew(rt: &impl Abort, alloc: Global, log: &[u8], count: u64, fresh: &[u8]) {
     let mut disk = disk_of(rt, alloc, log, &[]);
     let Some((counted, target)) = anew_on(alloc, &mut disk, disk_of(rt, alloc, &[], &[])) else {

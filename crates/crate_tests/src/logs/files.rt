@@ -1,4 +1,4 @@
-//! Logs over a file of the machine, and behind a tail that was cut off.
+//! Logs over a file of the machine, and after a tail that was cut off.
 use crate::folder::expect_taken_away;
 use crate::logs::appends::{append_in, append_to};
 use crate::logs::fixtures::{Found, ONE_CELL, PUT_7, expect_said, log_of};
@@ -9,7 +9,7 @@ use std::alloc::Global;
 use std::fs::Files;
 use std::process::Abort;
 
-// Makes a log in the file of this name, and appends a cell.
+// Creates a log in the file of this name, and appends a cell.
 fn make_and_append<D: LogDisk>(
     rt: &impl Abort,
     alloc: Global,
@@ -30,12 +30,12 @@ pub fn is_read_back<R: Abort + Files + AllocGlobal, D: LogDisk>(rt: &R, disk: D,
     expect_taken_away(rt, name, ONE_CELL);
 }
 
-// What stands behind the one cell of a log: no commit byte, and more than a cell.
+// The bytes after the one cell of a log: no commit byte, and more than a cell.
 const TAIL: &[u8] = &[77; 41];
 
 const TWO_CELLS: Found = ([2, 2, 0, 0], (1, true), (0, None));
 
-// A log of one cell and a tail goes on with a second cell.
+// A log of one cell and a tail continues with a second cell.
 fn goes_on(rt: &impl Abort, alloc: Global) {
     let torn = log_of(rt, alloc, &[PUT_7], TAIL);
     let drop_7 = Cell::Remove { id: 7 };

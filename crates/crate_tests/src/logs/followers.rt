@@ -1,4 +1,4 @@
-//! A follower that goes on beside a leader whose log has grown.
+//! A follower that continues when its leader's log has grown.
 use crate::logs::fixtures::{AT, PUT_7, log_of};
 use crate::memory::disk_of;
 use cell_format::Cell;
@@ -14,7 +14,7 @@ const PUT_8: Cell = Cell::Put {
     moment: 11,
 };
 
-// What a follower reports that is brought the next cell of the leader, how much was sent each way, and its drive.
+// The report of a follower that receives the next cell of the leader, how much was sent each way, and its drive.
 fn follow_on<D: LogDisk>(alloc: Global, disk: D) -> Option<(Report, [usize; 2], D)> {
     let cells = [PUT_7];
     let Ok(follower) = Follower::open(alloc, disk, &cells, 1) else {

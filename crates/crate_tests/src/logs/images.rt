@@ -1,4 +1,4 @@
-//! What one append leaves, and what a crash may.
+//! What one append leaves, and what a crash may leave of it.
 use crate::checks::same_bytes;
 use crate::logs::appends::{Appended, Kept, Left, append_in, journal_of};
 use crate::logs::fixtures::{ONE_CELL, PUT_7};
@@ -14,8 +14,8 @@ const LOST: Appended = (Some(AppendFault::Disk { cell: 0 }), Some(0), 0);
 
 const KEPT: Kept = (1, None, false);
 
-// Whether an append leaves a log of one cell, in the file and in the image of a crash, over five moments: a sync of the opening, and a
-// write, a sync, a write and a sync.
+// Whether an append leaves a log of one cell, in the file and in the image of a crash, over five moments: a sync of the
+// opening, and a write, a sync, a write and a sync.
 fn expect_worked_bytes(rt: &impl Abort, left: &Left) {
     same_bytes(rt, left.bytes.as_slice(), ONE_CELL);
     same_bytes(rt, left.image.as_slice(), ONE_CELL);
@@ -33,8 +33,8 @@ fn an_opened_log_keeps_the_worked_cell(rt: HostRuntime) {
     assert_same!(rt; journal_of(&rt, rt.alloc(), EMPTY_LOG, &PUT_7), (KEPT, 49));
 }
 
-// How long the image is that has this in each free byte where the sync of this number fails, its commit byte, and how the log stands: the
-// opening's sync is the first.
+// The length of the image with this value in each free byte, if the sync of this number fails, then its commit byte,
+// and the state of the log. The opening's sync is the first.
 fn closed(rt: &impl Abort, alloc: Global, sync: u64, fill: u8) -> (usize, Option<u8>, Appended) {
     let failing = Failing {
         call: DiskCall::Sync,

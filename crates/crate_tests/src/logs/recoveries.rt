@@ -1,4 +1,4 @@
-//! What a log recovers to, and what is no log.
+//! What a log recovers to, and files that are no log.
 use crate::checks::same_bytes;
 use crate::logs::fixtures::{AT, Found, NOTHING, PUT_7, expect_found, expect_said, log_of};
 use crate::memory::{EMPTY_LOG, disk_of};
@@ -10,7 +10,7 @@ use std::alloc::Global;
 use std::process::Abort;
 use zorder::{Name, Point};
 
-// Makes a log on a drive. It gives the drive, and why no log was made.
+// Creates a log on a drive. Returns the drive, and why no log was created.
 fn made_on<D: LogDisk>(disk: D) -> (D, Option<InitFault>) {
     match init(disk, 1) {
         Ok(disk) => (disk, None),
@@ -18,7 +18,7 @@ fn made_on<D: LogDisk>(disk: D) -> (D, Option<InitFault>) {
     }
 }
 
-// Makes a log in a file with these bytes, and fails unless the file holds this then.
+// Creates a log in a file with these bytes, and fails unless the file holds this then.
 fn expect_made(
     rt: &impl Abort,
     alloc: Global,
@@ -43,7 +43,7 @@ fn no_log_is_made_of_18_bytes(rt: HostRuntime) {
     expect_made(&rt, rt.alloc(), &[1; 18], Some(in_use), &[1; 18]);
 }
 
-// Opens the log on a drive. It gives how many cells were found, how many the log has, and the drive.
+// Opens the log on a drive. Returns how many cells were found, how many the log has, and the drive.
 fn opened_on<D: LogDisk>(rt: &impl Abort, alloc: Global, disk: D) -> (u64, u64, D) {
     let Ok(opened) = open(alloc, disk, 1, 1) else {
         rt.panic("the log isn't opened")
@@ -52,14 +52,15 @@ fn opened_on<D: LogDisk>(rt: &impl Abort, alloc: Global, disk: D) -> (u64, u64, 
     (opened.seen.cells, cells, opened.log.give_back())
 }
 
-// Fails unless one cell is found in a file, its log has one, and the file is 49 bytes long then, of which the last is 77.
+// Fails unless one cell is found in a file, its log has one, and the file is 49 bytes long then, the last of which is
+// 77.
 fn expect_opened(rt: &impl Abort, alloc: Global, bytes: &[u8]) {
     let (found, cells, disk) = opened_on(rt, alloc, disk_of(rt, alloc, bytes, &[]));
     let held = disk.bytes();
     assert_same!(rt; (found, cells, held.len(), held.last().copied()), (1, 1, 49, Some(77)));
 }
 
-// What a log says of so many cells that leave object 7 alone.
+// What a log of so many cells records that leave object 7 alone.
 macro_rules! of_7 {
     ($version:expr, $cells:expr, $at:expr, $moment:expr) => {
         (
@@ -79,7 +80,7 @@ macro_rules! of_7 {
 
 const ONE_PUT: Found = of_7!(2, 1, AT, 10);
 
-// A log of one cell, and bytes behind it that no record begins with.
+// A log of one cell, and bytes after it that no record begins with.
 fn torn_log(rt: &impl Abort, alloc: Global) -> Vec<u8> {
     let mut tail = [5; 41];
     tail[0] = 77;
@@ -113,7 +114,7 @@ macro_rules! damaged {
     };
 }
 
-// Bytes behind a header in which nothing is found for this cause.
+// Bytes after a header in which nothing is found for this reason.
 const FAULTS: &[(&[u8], OpenFault)] = &[
     (BAD_KIND, damaged!(Cause::Kind)),
     (&[1], damaged!(Cause::ShortCell)),
@@ -161,7 +162,7 @@ fn a_begin_alone_leaves_its_leaf(rt: HostRuntime) {
 
 const BESIDE: Point = Point { x: 4, y: 5 };
 
-// A move behind a put of moment 10.
+// A move after a put with moment 10.
 fn move_of(moment: u64) -> Cell {
     Cell::Move {
         id: 7,
@@ -223,7 +224,7 @@ fn a_log_is_read_as_its_header_says(rt: HostRuntime) {
     }
 }
 
-// Why the log on a drive isn't opened. It gives the drive too.
+// Why the log on a drive isn't opened. Returns the drive too.
 fn unopened_on<D: LogDisk>(rt: &impl Abort, alloc: Global, disk: D) -> (OpenFault, D) {
     match open(alloc, disk, 1, 16) {
         Ok(_) => rt.panic("the log is opened"),
@@ -237,7 +238,7 @@ fn is_not_opened(rt: &impl Abort, alloc: Global, bytes: &[u8], fault: OpenFault)
     same_bytes(rt, disk.bytes(), bytes);
 }
 
-// Of version 1, also where a cell of it is damaged.
+// Of version 1, even if a cell of it is damaged.
 const OF_1: OpenFault = OpenFault::OldLog {
     version: 1,
     width: 1,

@@ -1,4 +1,4 @@
-//! Walks over the cells of logs: what each cell is told to do, where a walk ends, and what it then stands for.
+//! Walks over the cells of logs: what each returns for a cell, where it ends, and what it has found then.
 use crate::logs::fixtures::{AT, Found, NOTHING, PUT_7, log_of, said};
 use crate::memory::{EMPTY_LOG, disk_of};
 use cell_format::{Cause, Cell};
@@ -13,7 +13,7 @@ use zorder::{Name, Point};
 // No log here has as many cells.
 const MANY: u32 = 5_000;
 
-// What a walk told: each cell, why no other one, if not since there is none, and what the cells stand for.
+// What a walk returned: each cell, the fault that ended it, if it didn't come to the end, and what the cells record.
 #[derive(Drop)]
 struct Told {
     walked: Vec<Walked>,
@@ -21,7 +21,7 @@ struct Told {
     found: Found,
 }
 
-// Goes over the cells until there are no more, or something is at fault.
+// Goes over the cells until there are no more, or until a fault.
 fn go_on<D: LogDisk>(
     rt: &impl Abort,
     walk: &mut Walk<D>,
@@ -82,7 +82,7 @@ const PUT_8: Cell = Cell::Put {
 
 const DROP_7: Cell = Cell::Remove { id: 7 };
 
-// A cell as a walk tells it.
+// A cell as a walk returns it.
 macro_rules! walked {
     ($at:expr, $cell:expr, $before:expr, $after:expr) => {
         Walked {
@@ -176,7 +176,7 @@ macro_rules! second {
     };
 }
 
-// What is at fault behind a put of 7 and maybe one cell more.
+// The fault after a put of 7 and maybe one more cell.
 fn expect_fault(
     rt: &impl Abort,
     alloc: Global,
@@ -217,7 +217,7 @@ fn a_walk_that_ends_at_a_fault_tells_of_the_cells_before_it(rt: HostRuntime) {
     ends_at_each_fault(&rt, rt.alloc());
 }
 
-// The put, and moves of later and later moments, of which those of even numbers lead back.
+// The put, and moves with rising moments. Those with even numbers go back.
 fn long_log(rt: &impl Abort, alloc: Global, cells: u64) -> Vec<u8> {
     let mut all = Vec::from_slice(alloc, &[PUT_7]).expect(rt, "no memory");
     for number in 1..cells {
@@ -229,7 +229,7 @@ fn long_log(rt: &impl Abort, alloc: Global, cells: u64) -> Vec<u8> {
     log_of(rt, alloc, all.as_slice(), &[0])
 }
 
-// Where the last of so many cells brings the object, and from where.
+// Where the last of so many cells moves the object, and from where.
 fn expect_last(rt: &impl Abort, alloc: Global, cells: u64, before: Point, after: Point) {
     let log = long_log(rt, alloc, cells);
     let told = walk_over(rt, alloc, log.as_slice(), &[], cells);

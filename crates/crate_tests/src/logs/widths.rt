@@ -23,7 +23,7 @@ macro_rules! old {
     };
 }
 
-// A damaged cell stands behind the second head, and no commit byte behind the last but one.
+// A damaged cell follows the second head, and no commit byte follows the last but one.
 const WIDTHS: &[(&[u8], Result<u8, OpenFault>)] = &[
     (EMPTY_LOG, Ok(1)),
     (b"MDLOCLOG\x02\x02\0\0\0\0\0\0\x01\x09", Ok(2)),

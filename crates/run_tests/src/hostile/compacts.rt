@@ -1,4 +1,4 @@
-//! Each call of the second drive failing in turn in a run of `compact`, and what a crash leaves of its file.
+//! Each call of the second drive fails once in a run of `compact`. What a crash leaves of its file.
 use crate::hostile::records::{ABANDON, BEGIN, DROP, INSTALL, MOVE, PUT, Record, front, log_of};
 use crate::hostile::runs::{Image, found_in, images_on, is_log_of, must};
 use crate::memory::{Left, Plan, run_both};
@@ -10,7 +10,7 @@ use std::sync::Wait;
 use std::thread::Threads;
 use zorder::Point;
 
-// A record of a split, of the name of the first so many of these bits.
+// A record of a split. Its name is the first `len` of these bits.
 macro_rules! split {
     ($kind:expr, $number:expr, $bits:expr, $len:expr) => {
         Record {
@@ -40,7 +40,8 @@ const ONE: u64 = 0x8000_0000_0000_0000;
 
 const ZERO_ONE: u64 = 0x4000_0000_0000_0000;
 
-/// Leaves by four splits, the second half split before the first one; one split was abandoned, one is open, and an object was dropped.
+/// Leaves that four splits create, the second half split before the first one. One split was abandoned, one is open,
+/// and an object was removed.
 pub const GROWN: &[Record] = &[
     at!(PUT, 1, 0, 1),
     split!(BEGIN, 1, 0, 0),
@@ -60,7 +61,7 @@ pub const GROWN: &[Record] = &[
     split!(BEGIN, 6, 0, 2),
 ];
 
-// A name comes before its extensions, and those of its zero half before the other half.
+// A name comes before its extensions. Those in its zero half come before those in the other half.
 const FRESH: &[Record] = &[
     split!(BEGIN, 1, 0, 0),
     split!(INSTALL, 1, 0, 0),
@@ -102,8 +103,8 @@ fn compacting(file: &[u8]) -> Plan<'_> {
     }
 }
 
-// How many records an image has, where it isn't one that is still small: none until the byte that makes them count is written, all of them once
-// that is synced, and between the two as the byte is that stands there.
+// How many records an image has, if it is no longer small: none until the byte that commits them is written, and all of
+// them after that byte is synced. Between the two, the value of the byte decides.
 fn records_of(image: &Image, failing: Failing) -> Option<usize> {
     let is_sync = failing.call == DiskCall::Sync;
     match image.moment {
@@ -141,8 +142,8 @@ fn judge_images<R: Abort>(rt: &R, alloc: Global, failing: Failing, left: &Left) 
     }
 }
 
-// How many calls `compact` makes of the second drive: a write and a sync make an empty log, and the records take one more of each, as does the
-// byte that makes them count.
+// How many calls `compact` makes of the second drive. A write and a sync create an empty log. The records take one more
+// of each, and so does the byte that commits them.
 const CALLS: &[(DiskCall, u64)] = &[
     (DiskCall::Attach, 1),
     (DiskCall::Len, 1),
@@ -152,7 +153,7 @@ const CALLS: &[(DiskCall, u64)] = &[
     (DiskCall::Sync, 3),
 ];
 
-// Lets each call of a kind fail in turn, and then one more than there are.
+// Lets each call of a kind fail once, and then one more than there are.
 fn fail_each<R: Abort + Threads + Wait + Sync>(
     rt: &R,
     alloc: Global,

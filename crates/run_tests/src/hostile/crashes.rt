@@ -1,4 +1,4 @@
-//! Each device call of a run failing in turn, and what a crash leaves at each moment of such runs.
+//! Each device call of a run fails once. What a crash leaves at each moment of such runs.
 use crate::checks::{Case, INIT, is_left, run_case};
 use crate::hostile::clock::{Trial, judge_images};
 use crate::hostile::records::{BEGIN, INSTALL, MOVE, PUT, Record, children, front, log_of};
@@ -28,7 +28,7 @@ const FRESH: &[&str; 7] = &[
     "7,7,stale,0:1:16\n",
 ];
 
-// Those of the first six over a log that has the puts.
+// The lines of the first six over a log that has the puts.
 const AGAIN: &[&str; 6] = &[
     "1,1,present,0:0:11\n",
     "2,2,present,2147483648:0:12\n",
@@ -115,19 +115,19 @@ const PUT_5: Record = Record {
     ..PUT_1
 };
 
-/// The records that these rows leave: the split of the one leaf stands before the move, and the late one has none.
+/// The records that these rows leave. The split of the one leaf comes before the move, and the late move has none.
 pub const WHOLE: &[Record] = &[
     PUT_1, PUT_2, PUT_3, PUT_4, PUT_5, BEGIN_1, INSTALL_1, MOVE_1,
 ];
 
 const FOUR_PUTS: &[Record] = &[PUT_1, PUT_2, PUT_3, PUT_4];
 
-// The same over a log whose split was begun: it is begun anew.
+// The same over a log whose split was begun. It is begun again.
 const BEGUN_ANEW: &[Record] = &[
     PUT_1, PUT_2, PUT_3, PUT_4, PUT_5, BEGIN_1, BEGIN_2, INSTALL_2, MOVE_1,
 ];
 
-// The same over a log that has them all: the move leaves its record again.
+// The same over a log that has them all. The move leaves its record again.
 const MOVED_TWICE: &[Record] = &[
     PUT_1, PUT_2, PUT_3, PUT_4, PUT_5, BEGIN_1, INSTALL_1, MOVE_1, MOVE_1,
 ];
@@ -141,7 +141,7 @@ fn records_over(first: usize) -> &'static [Record] {
     }
 }
 
-// What stands behind these lines.
+// The text after these lines.
 fn behind<'a>(text: &'a [u8], lines: &[&str]) -> Option<&'a [u8]> {
     let mut rest = text;
     for line in lines {
@@ -150,7 +150,7 @@ fn behind<'a>(text: &'a [u8], lines: &[&str]) -> Option<&'a [u8]> {
     Some(rest)
 }
 
-// Whether these are the lines of the rows over a log of the first records of them.
+// Whether these are the lines of the rows over a log of the first of their records.
 fn is_output(text: &[u8], first: usize) -> bool {
     let again = if first == 8 { AGAIN_MOVED } else { AGAIN };
     let (again, _) = again.split_at(first.min(6));
@@ -189,15 +189,15 @@ const MOVED_OBJECTS: &[Member; 5] = &[
     object!(5, 1, 1, 15),
 ];
 
-// Whether these are the objects of the first so many records.
+// Whether these are the objects of the first `count` records.
 fn are_objects(objects: &[Member], count: usize) -> bool {
     let all = if count == 8 { MOVED_OBJECTS } else { OBJECTS };
     let (wanted, _) = all.split_at(count.min(5));
     objects == wanted
 }
 
-// How many cells, points, leaves, unfinished splits, and splits that were begun, behind each number of records, where a split makes two
-// leaves.
+// The numbers of cells, points, leaves, unfinished splits, and splits that were begun, after each number of records. A
+// split creates two leaves.
 const COUNTS: &[[u64; 5]] = &[
     [0, 0, 1, 0, 0],
     [1, 1, 1, 0, 0],
@@ -210,20 +210,20 @@ const COUNTS: &[[u64; 5]] = &[
     [8, 5, 2, 0, 1],
 ];
 
-// The same by the width of the log.
+// The same for the width of the log.
 fn counts_of(width: u8, count: usize) -> Option<[u64; 5]> {
     let [cells, points, leaves, unfinished, begun] = *COUNTS.get(count)?;
     let leaves = if leaves == 2 { children(width) } else { leaves };
     Some([cells, points, leaves, unfinished, begun])
 }
 
-// Whether a file is found to be a log of the first so many records.
+// Whether a file is found to be a log of the first `count` records.
 fn is_found<R: Abort>(rt: &R, alloc: Global, width: u8, file: &[u8], count: usize) -> bool {
     let found = found_in(rt, alloc, width, file).expect(rt, "a log is refused");
     counts_of(width, count) == Some(found.counts) && are_objects(found.objects.as_slice(), count)
 }
 
-// Fails unless `inspect` finds in each image of a run over a log of no records what the records in it say.
+// Fails unless `inspect` finds in each image of a run over a log of no records what its records say.
 fn inspect_images<R: Abort>(rt: &R, alloc: Global, width: u8, left: &Left) {
     let mut last: &[u8] = &[];
     for image in images_of(rt, alloc, left).iter() {
@@ -237,7 +237,7 @@ fn inspect_images<R: Abort>(rt: &R, alloc: Global, width: u8, left: &Left) {
     }
 }
 
-// What a run begins over: a log of this width that has the first so many records, maybe with bytes behind them.
+// The start of a run: a log of this width that has the first of these records, maybe with bytes after them.
 #[derive(Clone, Copy)]
 struct Start<'a> {
     width: u8,
@@ -245,7 +245,7 @@ struct Start<'a> {
     first: usize,
 }
 
-// Plays the rows over a file with these calls failing.
+// Plays the rows over a file while these calls fail.
 fn play<R: Abort + Threads + Wait + Sync>(
     rt: &R,
     alloc: Global,
@@ -255,7 +255,7 @@ fn play<R: Abort + Threads + Wait + Sync>(
     run_plan(rt, alloc, &playing(INPUT, file, calls))
 }
 
-// Plays the rows over a file where no call fails.
+// Plays the rows over a file while no call fails.
 fn play_over<R: Abort + Threads + Wait + Sync>(rt: &R, alloc: Global, start: &Start<'_>) {
     let Start { width, file, first } = *start;
     let left = play(rt, alloc, file, &[]);
@@ -296,8 +296,8 @@ fn play_again<R: Abort + Threads + Wait + Sync>(rt: &R, alloc: Global, width: u8
     }
 }
 
-// The cell of the append that a failing call belongs to, behind the first so many: an append has two writes and two syncs, and opening one
-// sync.
+// The cell of the append to which a failing call belongs, after the first ones. An append has two writes and two syncs,
+// and opening has one sync.
 fn cell_of(first: usize, failing: Failing) -> Option<u64> {
     let before = match failing.call {
         DiskCall::Write => failing.number.saturating_sub(1) / 2,
@@ -307,7 +307,7 @@ fn cell_of(first: usize, failing: Failing) -> Option<u64> {
     Some(before.saturating_add(first as u64))
 }
 
-// Judges a run whose call failed by the cell of its append, if it has one.
+// Checks a run whose call failed by the cell of its append, if it has one.
 fn judge_failed<R: Abort + Threads + Wait + Sync>(
     rt: &R,
     alloc: Global,
@@ -342,7 +342,7 @@ fn judge_last<R: Abort + Threads + Wait + Sync>(rt: &R, alloc: Global, width: u8
     play_again(rt, alloc, width, left);
 }
 
-// A play where no call fails, or where one would that it doesn't make.
+// A play in which no call fails, or in which the failing call isn't made.
 fn judge_whole<R: Abort + Threads + Wait + Sync>(
     rt: &R,
     alloc: Global,
@@ -359,8 +359,9 @@ fn judge_whole<R: Abort + Threads + Wait + Sync>(
     judge_last(rt, alloc, start.width, &left);
 }
 
-// How many calls a play makes over the first so many records. The length is asked for once, and the head is read before the records. An append
-// has two writes and two syncs, and there are eight of all records; opening has one sync, and cuts nothing where the log ends with its commit byte.
+// How many calls a play makes over the first `first` records. The length is read once, and the head is read before the
+// records. An append has two writes and two syncs, and there are eight of all records. Opening has one sync, and cuts
+// nothing if the log ends with its commit byte.
 fn play_calls(first: usize) -> [(DiskCall, u64); 6] {
     let writes = 16_u64.saturating_sub(2_u64.saturating_mul(first as u64));
     [
@@ -373,7 +374,7 @@ fn play_calls(first: usize) -> [(DiskCall, u64); 6] {
     ]
 }
 
-// Lets each call of a kind fail in turn, and then one more than there are.
+// Lets each call of a kind fail once, and then one more than there are.
 fn fail_each<R: Abort + Threads + Wait + Sync>(
     rt: &R,
     alloc: Global,
@@ -423,7 +424,7 @@ fn each_call_of_a_play_over_a_quad_log_fails_in_turn_and_nothing_is_lost(rt: Hos
     every_call_behind_four(&rt, rt.alloc());
 }
 
-// Makes a log anew over each image of an init: it has at most 17 bytes, so that takes it.
+// Creates a log again over each image of an `init`. The image has at most 17 bytes, so `init` accepts it.
 fn make_again<R: Abort + Threads + Wait + Sync>(rt: &R, alloc: Global, left: &Left) {
     let mut last: &[u8] = &[0; 18];
     for image in images_of(rt, alloc, left).iter() {
@@ -438,7 +439,7 @@ fn make_again<R: Abort + Threads + Wait + Sync>(rt: &R, alloc: Global, left: &Le
 
 const MAKING: &Case<'static> = &Case { input: "", ..INIT };
 
-// Makes a log over a file with these calls failing.
+// Creates a log over a file while these calls fail.
 fn making<'a>(file: &'a [u8], calls: &'a [Failing]) -> Case<'a> {
     Case {
         file: Some(file),
@@ -458,7 +459,7 @@ const INIT_CALLS: &[(DiskCall, u64)] = &[
     (DiskCall::Sync, 1),
 ];
 
-// Lets each call of a kind fail in turn in an init, and then one more than there are.
+// Lets each call of a kind fail once in an `init`, and then one more than there are.
 fn fail_each_of_init<R: Abort + Threads + Wait + Sync>(
     rt: &R,
     alloc: Global,

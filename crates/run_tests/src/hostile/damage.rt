@@ -1,4 +1,4 @@
-//! Damaged logs of both versions and widths: what is found in them, and what each command makes of them.
+//! Damaged logs of both versions and widths: what is found in them, and what each command does with them.
 use crate::checks::{Case, EMPTY, is_untouched, run_case};
 use crate::hostile::records::{ABANDON, BEGIN, DROP, INSTALL, MOVE, PUT, Record, log_of};
 use crate::hostile::runs::{found_in, images_of, must};
@@ -10,10 +10,10 @@ use std::process::Abort;
 use std::sync::Wait;
 use std::thread::Threads;
 
-// What is to be found in a file of version 2. One of version 1 isn't played over (`played`).
+// What is to be found in a file of version 2. A file of version 1 isn't played over (`played`).
 #[derive(Clone, Copy)]
 struct Want {
-    // How many cells, points, leaves, unfinished splits, and splits that were begun.
+    // The numbers of cells, points, leaves, unfinished splits, and splits that were begun.
     found: Result<[u64; 5], OpenFault>,
     status: u8,
     // What `check`, `show` and `play` write.
@@ -27,7 +27,7 @@ struct Head {
     width: u8,
 }
 
-// A file: a log of these records, with this byte put in at its place, and then so many taken off its end.
+// A file: a log of these records, with this byte inserted at its place, and then a number of bytes cut off its end.
 #[derive(Clone, Copy)]
 struct Damage(&'static [Record], Option<(usize, u8)>, usize);
 
@@ -106,7 +106,7 @@ const BEGIN_OF_64_BITS: Record = Record { len: 64, ..BEGIN_1 };
 
 const BEGIN_OF_65_BITS: Record = Record { len: 65, ..BEGIN_1 };
 
-// A name of one bit, and a second one behind it.
+// A name of one bit, and a second bit after it.
 const BEGIN_WITH_A_STRAY_BIT: Record = Record {
     place: 0xC000_0000_0000_0000,
     len: 1,
@@ -349,8 +349,8 @@ const SECOND_SPLIT_OF_FOUR_OPEN: Want = Want {
     ..SECOND_BEGIN_OPEN
 };
 
-// The files in which each is to be found in both versions and widths. Bytes 0 to 15 are the header, whose byte 8 is the version, and record
-// n stands at byte 16 + 32 n.
+// The files in which each is to be found in both versions and widths. Bytes 0 to 15 are the header, whose byte 8 is the
+// version. Record n begins at byte 16 + 32 n.
 const FILES: &[(Want, &[Damage])] = &[
     (
         NOT_LOG,
@@ -440,7 +440,7 @@ const FILES: &[(Want, &[Damage])] = &[
     ),
 ];
 
-// The same where splits make two leaves.
+// The same if splits create two leaves.
 const FILES_BY_TWO: &[(Want, &[Damage])] = &[
     (OF_VERSION_0, &[Damage(&[], Some((8, 0)), 0)]),
     (OF_VERSION_3, &[Damage(&[], Some((8, 3)), 0)]),
@@ -458,7 +458,7 @@ const FILES_BY_TWO: &[(Want, &[Damage])] = &[
     ),
 ];
 
-// The same where they make four: of a leaf that a split by two would make there is none.
+// The same if they create four. There is no leaf that only a split in two would create.
 const FILES_BY_FOUR: &[(Want, &[Damage])] = &[
     (QUAD_OF_VERSION_3, &[Damage(&[], Some((8, 3)), 0)]),
     (
@@ -475,7 +475,8 @@ const FILES_BY_FOUR: &[(Want, &[Damage])] = &[
     ),
 ];
 
-// The files in which each is to be found in one version alone: the moments of version 2 are reserved bytes in version 1.
+// The files in which each is to be found in one version alone. The moments of version 2 are reserved bytes in version
+// 1.
 const FILES_OF_1: &[(Want, &[Damage])] = &[
     (OF_1_AND_WIDTH_3, &[Damage(&[], Some((9, 3)), 0)]),
     (
@@ -526,13 +527,13 @@ fn is_found<R: Abort>(rt: &R, alloc: Global, file: &[u8], head: Head, want: &Wan
     }
 }
 
-// A run where `play` asks for object 7.
+// A run in which `play` looks up object 7.
 const ASKING: &Case<'static> = &Case {
     input: rows!("1,where,7,,,,,\n"),
     ..EMPTY
 };
 
-// The same over a file that is not to change.
+// The same over a file that must not change.
 fn asking<'a>(file: &'a [u8], want: &Want) -> Case<'a> {
     Case {
         file: Some(file),
@@ -561,7 +562,7 @@ fn judge_reads<R: Abort + Threads + Wait + Sync>(rt: &R, alloc: Global, file: &[
     is_untouched(rt, alloc, &show);
 }
 
-// A refused play leaves the file and no history, and a crash leaves the file at each moment.
+// A refused play leaves the file unchanged and no history, and a crash leaves the file at each moment.
 fn judge_kept<R: Abort>(rt: &R, alloc: Global, left: &Left, file: &[u8]) {
     for image in images_of(rt, alloc, left).iter() {
         let is_same = image.bytes.as_slice() == file;
@@ -578,7 +579,7 @@ fn refused_of_1(width: u8) -> &'static str {
     }
 }
 
-// The status and the text of a play: one over version 1 is refused, unless the header is at fault.
+// The status and the text of a play. A play over version 1 is refused, unless the header is faulty.
 fn played(head: Head, want: &Want) -> (u8, &'static str) {
     let is_header = matches!(
         want.found,

@@ -10,7 +10,7 @@ use std::thread::Threads;
 
 const ROWS: u32 = 8_500;
 
-// A put and many rows that ask where it is: more than a piece of 64 KiB, as input and as output.
+// A put and many rows that look up where it is: more than a piece of 64 KiB, as input and as output.
 fn long_input(alloc: Global) -> Result<String, AllocError> {
     let put = "session,op,id,x,y,a,b,moment\n1,put,7,3,5,,,0\n";
     repeated(alloc, put, ROWS.saturating_sub(1), "1,where,7,,,,,\n")
@@ -36,7 +36,7 @@ const LONG_RUN: &Case<'static> = &Case {
     ..EMPTY
 };
 
-// A long run where these reads and puts would fail.
+// A long run in which these reads and puts would fail.
 fn long_run<'a>(input: &'a str, output: &'a str, reads: &'a [u64], puts: &'a [u64]) -> Case<'a> {
     Case {
         input,
@@ -70,7 +70,8 @@ fn each_read<R: Abort + Threads + Wait + Sync>(rt: &R, alloc: Global, input: &st
     }
 }
 
-// Fails unless a run whose sink fails at this put keeps all, and writes a front of these lines. It gives how long that is.
+// Fails unless a run whose sink fails at this put keeps all, and writes the beginning of these lines. Returns how long
+// that is.
 fn front_of_put<R: Abort + Threads + Wait + Sync>(
     rt: &R,
     alloc: Global,
@@ -97,7 +98,7 @@ fn each_put<R: Abort + Threads + Wait + Sync>(rt: &R, alloc: Global, input: &str
     }
 }
 
-// Behind three reads and three puts there are no others.
+// After three reads and three puts there are no others.
 fn each_call<R: Abort + Threads + Wait + Sync>(rt: &R, alloc: Global) {
     let input = long_input(alloc).expect(rt, "it failed");
     let output = long_output(alloc).expect(rt, "it failed");
@@ -125,7 +126,7 @@ const ONE_ROW: Case<'static> = Case {
     ..EMPTY
 };
 
-// A log of no records, with the bytes of put 7 at (3,5) behind its clear commit byte, and a clear one behind that.
+// A log of no records, with the bytes of put 7 at (3,5) after its clear commit byte, and a clear one after that.
 const UNSET_PUT_LOG: &[u8] = b"MDLOCLOG\x02\x01\0\0\0\0\0\0\
     \0\x01\0\0\0\0\0\0\0\x07\0\0\0\x03\0\0\0\x05\0\0\0\0\0\0\0\0\0\0\0\0\0\0\
     \0";
@@ -203,7 +204,7 @@ const REFUSED: &[Case<'static>] = &[
     },
 ];
 
-// With a sink, and with one that doesn't take the line.
+// With a sink, and with one that doesn't accept the line.
 fn each_refusal<R: Abort + Threads + Wait + Sync>(rt: &R, alloc: Global) {
     for case in REFUSED {
         is_left(rt, alloc, case);

@@ -1,4 +1,4 @@
-//! Each call of the second drive failing in turn in a run of `follow`, and what a crash leaves of its file.
+//! Each call of the second drive fails once in a run of `follow`. What a crash leaves of its file.
 use crate::hostile::machine::{Turn, input_of, told_of};
 use crate::hostile::records::{MOVE, PUT, Record, front, log_of};
 use crate::hostile::runs::{Image, following, found_in, images_on, is_log_of, is_refused, must};
@@ -46,7 +46,7 @@ macro_rules! object {
     };
 }
 
-// The objects behind each number of records.
+// The objects after each number of records.
 const OBJECTS: &[&[Member]] = &[
     &[],
     &[object!(7, 3, 5, 5)],
@@ -66,24 +66,26 @@ const TURNS: &[Turn] = &[
     Turn::Ack(3),
 ];
 
-// The second file as a run finds it: how many records it has, and how many writes and syncs opening it makes. It is made where it has none.
+// The second file as a run finds it: how many records it has, and how many writes and syncs opening it makes. If there
+// is no file, it is created.
 #[derive(Clone, Copy)]
 struct Start<'a> {
     file: &'a [u8],
     first: u64,
     writes: u64,
     syncs: u64,
-    // How many moments that takes: a cut is one too.
+    // How many moments that takes. A cut is one too.
     moments: u64,
 }
 
 impl Start<'_> {
-    // How many records are placed before the restart. One more is placed behind it.
+    // How many records are placed before the restart. One more is placed after it.
     fn before(&self) -> u64 {
         2_u64.saturating_sub(self.first)
     }
 
-    // The cell of the append that a failing call belongs to: an append has two writes and two syncs, and the restart one sync.
+    // The cell of the append to which a failing call belongs. An append has two writes and two syncs, and the restart
+    // has one sync.
     fn cell_of(&self, failing: Failing) -> Option<u64> {
         let calls = match failing.call {
             DiskCall::Write => failing.number.checked_sub(self.writes.saturating_add(1))?,
@@ -96,7 +98,7 @@ impl Start<'_> {
         Some(self.first.saturating_add(calls / 2))
     }
 
-    // The number of a sync among those of appends, where it is one.
+    // The number of a sync among those of appends, if it is one.
     fn without_restart(&self, syncs: u64) -> Option<u64> {
         let before = self.before().saturating_mul(2);
         if syncs == before {
@@ -105,7 +107,8 @@ impl Start<'_> {
         Some(syncs.saturating_sub((syncs > before) as u64))
     }
 
-    // How many records a crash leaves at a moment, with this value wherever one may stand; none where the file is still small.
+    // How many records a crash leaves at a moment, with this value in each free byte. `None` if the file is still
+    // small.
     fn records_at(&self, image: &Image, last: u64, failed: Option<Failing>) -> Option<u64> {
         let Some(calls) = image.moment.checked_sub(self.moments) else {
             return self.found();
@@ -114,7 +117,7 @@ impl Start<'_> {
         let calls = calls.saturating_sub((calls > before) as u64);
         let placed = self.first.saturating_add(calls / 4);
         match (calls % 4, failed) {
-            // The commit byte is written, and not synced.
+            // The commit byte is written, but not synced.
             (3, _) if image.fill == 1 => Some(placed.saturating_add(1)),
             (0, Some(failed)) if image.moment == last => {
                 self.behind_failed(failed, image.fill, placed)
@@ -123,7 +126,7 @@ impl Start<'_> {
         }
     }
 
-    // How many records there are on the way to opening it.
+    // How many records there are while it is opened.
     fn found(&self) -> Option<u64> {
         match self.writes {
             0 => Some(self.first),
@@ -131,7 +134,7 @@ impl Start<'_> {
         }
     }
 
-    // The same behind a call that failed, which may be the sync of making the file, or of a commit byte.
+    // The same after a call that failed. It may be the sync of creating the file, or of a commit byte.
     fn behind_failed(&self, failed: Failing, fill: u8, placed: u64) -> Option<u64> {
         if self.writes > 0 && failed.call == DiskCall::Sync && failed.number == 1 {
             return None;
@@ -143,7 +146,7 @@ impl Start<'_> {
     }
 }
 
-// Whether a file is found to have the first so many records.
+// Whether a file is found to have the first `count` records.
 fn is_found<R: Abort>(rt: &R, alloc: Global, file: &[u8], count: u64) -> bool {
     let found = found_in(rt, alloc, 1, file).expect(rt, "a log is refused");
     let objects = OBJECTS.get(count as usize).copied().unwrap_or(&[]);
@@ -173,7 +176,7 @@ fn follow<R: Abort + Threads + Wait + Sync>(
     left
 }
 
-// Whether a run where nothing fails tells of all records, over a file with the first so many of them.
+// Whether a run in which nothing fails reports all records, over a file with the first of them.
 fn is_whole<R: Abort>(rt: &R, alloc: Global, left: &Left, first: u64) -> bool {
     let told = told_of(alloc, TURNS, 3, first).expect(rt, "it failed");
     left.tells(0, &told.text) && is_log_of(rt, alloc, 1, left.other.bytes(), RECORDS)
@@ -214,7 +217,7 @@ fn judge<R: Abort + Threads + Wait + Sync>(
     follow_again(rt, alloc, left);
 }
 
-// Lets each call of a kind fail in turn, and then one more than there are.
+// Lets each call of a kind fail once, and then one more than there are.
 fn fail_each<R: Abort + Threads + Wait + Sync>(
     rt: &R,
     alloc: Global,
@@ -236,7 +239,7 @@ fn fail_each<R: Abort + Threads + Wait + Sync>(
     judge(rt, alloc, start, None, &left);
 }
 
-// A file that isn't there. Opening asks for the length, and so does the restart, which reads the head and the cells.
+// A file that isn't there. Opening reads the length, and so does the restart, which reads the head and the cells.
 const NO_FILE: &Start<'static> = &Start {
     file: &[],
     first: 0,
@@ -260,8 +263,8 @@ fn over_no_file<R: Abort + Threads + Wait + Sync>(rt: &R, alloc: Global) {
     }
 }
 
-// Over a file it is walked first, and then opened: each asks for its length, and reads the head and the cells. What stands behind the cells is
-// cut off.
+// A file is walked first, and then opened. Each of these reads its length, the head and the cells. The bytes after the
+// cells are cut off.
 const CALLS_OVER_ONE: &[(DiskCall, u64)] = &[
     (DiskCall::Attach, 1),
     (DiskCall::Len, 4),

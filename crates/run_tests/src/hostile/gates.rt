@@ -1,4 +1,5 @@
-//! Lanes that wait for each other outside the lock: that they run side by side, and that a query and a split let others go on.
+//! Lanes that wait for each other outside the lock. They show that lanes run at the same time, and that a query and a
+//! split let others continue.
 use crate::hostile::records::{BEGIN, INSTALL, PUT, Record, front};
 use crate::hostile::runs::{must, playing};
 use crate::memory::{EMPTY_LOG, Left, Plan, run_gated};
@@ -12,7 +13,7 @@ use std::thread::{Threads, yield_now};
 // A wait gives up after so many turns.
 const TURNS: u64 = 100_000_000;
 
-// Waits until a word has come to a number, and says whether it did.
+// Waits until a word has reached a number, and returns whether it did.
 fn comes_to(word: &AtomicU64, number: u64) -> bool {
     for _ in 0..TURNS {
         if word.load(Ordering::SeqCst) >= number {
@@ -23,7 +24,7 @@ fn comes_to(word: &AtomicU64, number: u64) -> bool {
     false
 }
 
-// Lane 1 waits at a point until lane 2 has answered twice, and lane 2 at its first answer until lane 1 is there.
+// Lane 1 waits at a point until lane 2 has answered twice. Lane 2 waits at its first answer until lane 1 is there.
 #[derive(Drop)]
 struct Meeting {
     point: GatePoint,
@@ -110,7 +111,7 @@ const PUT_1: Record = Record {
     len: 0,
 };
 
-// The records of these rows, where the put of 9 comes between the begin and the install of its leaf's split.
+// The records of these rows. The put of 9 comes between the begin and the install of its leaf's split.
 const SPLIT_AROUND_A_PUT: &[Record] = &[
     PUT_1,
     Record {
@@ -148,7 +149,7 @@ const SPLIT_AROUND_A_PUT: &[Record] = &[
     },
 ];
 
-// A put goes on between the begin and the install of its leaf's split.
+// A put takes place between the begin and the install of its leaf's split.
 fn put_beside_split<R: Abort + Threads + Wait + Sync>(rt: &R, alloc: Global) {
     let left = meet(rt, alloc, GatePoint::Begun, SPLIT);
     let is_whole = front(1, left.file(), SPLIT_AROUND_A_PUT) == Some(8);
@@ -161,7 +162,7 @@ fn queries_and_splits_let_other_lanes_go_on(rt: HostRuntime) {
     put_beside_split(&rt, rt.alloc());
 }
 
-// Each of two lanes tells that it has its first answer, and waits until the other tells so too.
+// Each of two lanes says that it has its first answer, and waits until the other says so too.
 #[derive(Drop)]
 struct Greeting {
     first: AtomicU64,

@@ -1,7 +1,8 @@
-//! A follower as a plain machine: what each turn makes of it, and the lines that tell so.
+//! A follower as a plain machine: the effect of each turn, and the lines of its reports.
 use std::alloc::{AllocError, Global};
 
-/// A packet that names a cell, the arrival of a packet and of an acknowledgement by their numbers from 1, and a restart.
+/// A packet that names a cell, the arrival of a packet and of an acknowledgement by their numbers from 1, and a
+/// restart.
 #[derive(Clone, Copy)]
 pub enum Turn {
     Send(u64),
@@ -10,7 +11,8 @@ pub enum Turn {
     Restart,
 }
 
-/// How many cells the leader has, and NEW; how many of these the leader knows of; what packets name, and what acknowledgements say.
+/// How many cells the leader and NEW have; how many of these the leader knows of; what packets name, and what
+/// acknowledgements say.
 #[derive(Drop)]
 pub struct Follower {
     pub count: u64,
@@ -78,14 +80,14 @@ pub fn input_of(alloc: Global, turns: &[Turn]) -> Result<String, AllocError> {
     Ok(input)
 }
 
-/// What `follow` is to write, and how many cells NEW then has.
+/// What `follow` is to write, and how many cells NEW has then.
 #[derive(Drop)]
 pub struct Told {
     pub text: String,
     pub held: u64,
 }
 
-/// What these turns come to, where the leader has so many cells, and NEW so many of them at first.
+/// The result of these turns, if the leader has `count` cells, and NEW has `first` of them at the start.
 pub fn told_of(alloc: Global, turns: &[Turn], count: u64, first: u64) -> Result<Told, AllocError> {
     let mut follower = Follower::new(alloc, count, first);
     let mut text = String::from_str(alloc, "turn,held,known\n")?;

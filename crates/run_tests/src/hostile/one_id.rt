@@ -1,4 +1,5 @@
-//! One id for all sessions: each line is the one that a single object, changed row by row in the order of the history, gives.
+//! One id for all sessions. Each line is the one that a single object would have, if the rows changed it in the order
+//! of the history.
 use crate::hostile::clock::{Trial, judge_images};
 use crate::hostile::records::{DROP, MOVE, PUT, Record};
 use crate::hostile::runs::{is_log_of, is_refused, must, playing};
@@ -18,7 +19,7 @@ const PUTS: &str = "session,op,id,x,y,a,b,moment\n\
     9,put,1,9,0,,,0\n10,put,1,10,0,,,0\n11,put,1,11,0,,,0\n12,put,1,12,0,,,0\n\
     13,put,1,13,0,,,0\n14,put,1,14,0,,,0\n15,put,1,15,0,,,0\n16,put,1,16,0,,,0\n";
 
-// Each session puts, moves, drops and asks for it.
+// Each session puts, moves, removes and looks it up.
 const CHANGES: &str = "session,op,id,x,y,a,b,moment\n\
     1,put,1,1,0,,,0\n1,move,1,1,1,,,0\n1,drop,1,,,,,\n1,where,1,,,,,\n\
     2,put,1,2,0,,,0\n2,move,1,2,1,,,0\n2,drop,1,,,,,\n2,where,1,,,,,\n\
@@ -37,7 +38,8 @@ const CHANGES: &str = "session,op,id,x,y,a,b,moment\n\
     15,put,1,15,0,,,0\n15,move,1,15,1,,,0\n15,drop,1,,,,,\n15,where,1,,,,,\n\
     16,put,1,16,0,,,0\n16,move,1,16,1,,,0\n16,drop,1,,,,,\n16,where,1,,,,,\n";
 
-// Each session puts it, moves it twice and asks for it. Of two sessions at once the moments of one rise and those of the other fall.
+// Each session puts it, moves it twice and looks it up. If two sessions run at once, the moments of one rise and those
+// of the other fall.
 const MOVES: &str = "session,op,id,x,y,a,b,moment\n\
     1,put,1,1,0,,,8\n1,move,1,1,1,,,1\n1,move,1,1,2,,,16\n1,where,1,,,,,\n\
     2,put,1,2,0,,,8\n2,move,1,2,1,,,2\n2,move,1,2,2,,,15\n2,where,1,,,,,\n\
@@ -90,7 +92,7 @@ fn op_of(script: Script, session: u8, number: u32) -> Op {
     }
 }
 
-// What a row is told.
+// The answer to a row.
 #[derive(Clone, Copy)]
 enum Told {
     Done,
@@ -102,7 +104,7 @@ enum Told {
     At(Stamped),
 }
 
-// That, and the record of its change.
+// The answer, and the record of its change.
 #[derive(Clone, Copy)]
 struct Reply(Told, Option<Record>);
 
@@ -130,7 +132,7 @@ fn moved(id: u64, to: Stamped, kept: Stamped) -> Reply {
     }
 }
 
-// The word of an answer, and the position behind it.
+// The word of an answer, and the position after it.
 fn said(told: Told) -> (&'static str, Option<Stamped>) {
     match told {
         Told::Done => ("done", None),
@@ -168,8 +170,9 @@ fn line_of(alloc: Global, row: u32, place: u64, told: Told) -> Result<String, Al
     }
 }
 
-// A history told anew: where the object is, the records of its changes, its calls with their answers, the line of each row at its place in
-// the input, and how many rows of each session were called. Where an append failed, its record is the last one.
+// A history told again: where the object is, the records of its changes, its calls with their answers, the line of each
+// row at its place in the input, and how many rows of each session were called. If an append failed, its record is the
+// last one.
 #[derive(Drop)]
 struct Tale {
     script: Script,
@@ -204,7 +207,7 @@ impl Tale {
         })
     }
 
-    // Whether this is the session's next row, which is then called.
+    // Whether this is the session's next row. If so, it is called.
     fn is_next(&mut self, session: u8, row: u32, op: &Op) -> bool {
         let before = (session as u32).saturating_sub(1);
         let Some(slot) = self.called.get_mut(before as usize) else {
@@ -284,7 +287,7 @@ fn tale_of<R: Abort>(rt: &R, alloc: Global, script: Script, each: u32, events: &
     tale
 }
 
-// Plays rows over a log of no records with these calls failing.
+// Plays rows over a log of no records while these calls fail.
 fn play<R: Abort + Threads + Wait + Sync>(
     rt: &R,
     alloc: Global,
@@ -305,7 +308,7 @@ fn judge<R: Abort>(rt: &R, alloc: Global, tale: &Tale, left: &Left, is_closed: b
     judge_images(rt, alloc, &trial, left);
 }
 
-// Whether each row was told what the tale says, and one plain list says the same.
+// Whether each row had the answer in the tale, and one plain list agrees.
 fn has_told<R: Abort>(rt: &R, alloc: Global, tale: &Tale, left: &Left) -> bool {
     let output = tale.output(alloc).expect(rt, "it failed");
     let is_told = tale.place == tale.lines.len() as u64 && left.tells(0, &output);
@@ -313,7 +316,7 @@ fn has_told<R: Abort>(rt: &R, alloc: Global, tale: &Tale, left: &Left) -> bool {
     is_told && is_legal(alloc, &world, tale.calls.as_slice()).expect(rt, "it failed")
 }
 
-// A run of so many rows of each session, where nothing fails. It gives its tale.
+// A run of so many rows of each session in which nothing fails. Returns its tale.
 fn race<R: Abort + Threads + Wait + Sync>(
     rt: &R,
     alloc: Global,
@@ -371,7 +374,8 @@ fn race_moves<R: Abort + Threads + Wait + Sync>(rt: &R, alloc: Global) {
     }
 }
 
-// Whether the object has the greatest moment, and the 14 moves of moments below that of the puts were late, as they are in any order.
+// Whether the object has the greatest moment, and the 14 moves with moments below that of the puts were late. They are
+// late in any order.
 fn keeps_the_last(tale: &Tale) -> bool {
     let mut stale: u64 = 0;
     for call in tale.calls.iter() {
@@ -387,8 +391,8 @@ fn sixteen_sessions_that_move_one_id_keep_the_greatest_moment(rt: HostRuntime) {
     race_moves(&rt, rt.alloc());
 }
 
-// A run where a sync fails. Whichever session drops the id first has moved it before, behind a put: at least three appends, each with two
-// syncs, behind the one of opening.
+// A run in which a sync fails. The session that removes the id first has moved it before, after a put. These are at
+// least three appends, each with two syncs, after the sync of opening.
 fn race_and_fail<R: Abort + Threads + Wait + Sync>(rt: &R, alloc: Global, input: &str, round: u64) {
     let cell = round % 6 / 2;
     let failing = Failing {

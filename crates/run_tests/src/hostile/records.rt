@@ -1,16 +1,16 @@
-//! The bytes of a log, spelled and read as docs/FORMATS has them, by code that shares nothing with the program's.
+//! The bytes of a log, written and read as docs/FORMATS has them, by code that shares nothing with the program's.
 use plain_list::Stamped;
 use std::alloc::{AllocError, Global};
 use zorder::Point;
 
-/// The header of a log whose splits make two children, width 1, or four, width 2.
+/// The header of a log whose splits create two children (width 1), or four (width 2).
 pub fn header(width: u8) -> [u8; 16] {
     let mut bytes = *b"MDLOCLOG\x02\0\0\0\0\0\0\0";
     bytes[9] = width;
     bytes
 }
 
-/// How many leaves a split makes of one, by the width of its log.
+/// How many leaves a split creates from one, by the width of its log.
 pub fn children(width: u8) -> u64 {
     match width {
         2 => 4,
@@ -30,8 +30,8 @@ pub const INSTALL: u8 = 5;
 
 pub const ABANDON: u8 = 6;
 
-/// A record by its kind, its id or number, the eight bytes behind that (a point, or a name's bits), and what stands behind these: a
-/// moment, or the length of a name in one byte. One of the two is 0.
+/// A record by its kind, its id or number, and the next eight bytes (a point, or a name's bits). Then a moment follows,
+/// or the length of a name in one byte. One of the two is 0.
 #[derive(Clone, Copy)]
 pub struct Record {
     pub kind: u8,
@@ -53,7 +53,7 @@ impl Record {
         }
     }
 
-    /// A drop.
+    /// A removal.
     pub fn of(kind: u8, number: u64) -> Record {
         Record {
             kind,
@@ -91,7 +91,7 @@ impl Record {
     }
 }
 
-/// A log of this width and these records, and these bytes behind them.
+/// A log of this width and these records, and these bytes after them.
 pub fn log_of(
     alloc: Global,
     width: u8,
@@ -106,7 +106,7 @@ pub fn log_of(
     Ok(bytes)
 }
 
-/// How many of these records a file has, where it is a log of this width, of the first ones of them and of no others.
+/// How many of these records a file has, if it is a log of this width with the first of them and no others.
 pub fn front(width: u8, file: &[u8], records: &[Record]) -> Option<usize> {
     let mut rest = file.strip_prefix(header(width).as_slice())?;
     let mut count: usize = 0;

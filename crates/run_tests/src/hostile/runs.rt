@@ -1,6 +1,6 @@
 //! What a crash may leave of a run's file, and what is found in a file.
 //!
-//! `inspect` is called here alone, in a function without clauses: the tests look at what it gives while they run.
+//! `inspect` is called only here, in a function without clauses. The tests look at its result while they run.
 use crate::hostile::records::{Record, log_of};
 use crate::memory::{Left, Plan};
 use disk_mem::{Fail as Failing, MemDisk};
@@ -10,7 +10,7 @@ use recovery::{OpenFault, Seen, inspect};
 use std::alloc::{AllocError, Global};
 use std::process::Abort;
 
-/// These rows over a file with buckets of 4, where these calls fail.
+/// These rows over a file with buckets of 4, while these calls fail.
 pub fn playing<'a>(input: &'a str, file: &'a [u8], calls: &'a [Failing]) -> Plan<'a> {
     Plan {
         words: &["play", "log", "--bucket", "4"],
@@ -30,7 +30,7 @@ pub fn following<'a>(input: &'a str, file: &'a [u8]) -> Plan<'a> {
     }
 }
 
-/// A file that a crash may leave at a moment of the drive, with the byte that stands wherever any may.
+/// A file that a crash may leave at a moment of the drive, with this value in each free byte.
 #[derive(Drop)]
 pub struct Image {
     pub moment: u64,
@@ -38,7 +38,7 @@ pub struct Image {
     pub bytes: Vec<u8>,
 }
 
-/// Fails with these words and this number, unless it holds.
+/// Fails with these words and this number, unless `holds` is true.
 pub fn must<R: Abort>(rt: &R, holds: bool, what: &str, number: u64) {
     assert!(rt; holds, "{what} {number}");
 }
@@ -60,12 +60,13 @@ fn add_image<R: Abort>(
     must(rt, images.push(image).is_ok(), "memory at moment", moment);
 }
 
-/// What a crash may leave of a run's file: for each moment the images of the least and the greatest length with the fills 0, 1 and 9.
+/// What a crash may leave of a run's file: for each moment the images of the least and the greatest length with the
+/// fills 0, 1 and 9.
 pub fn images_of<R: Abort>(rt: &R, alloc: Global, left: &Left) -> Vec<Image> {
     images_on(rt, alloc, &left.disk)
 }
 
-/// The same of the file on a drive.
+/// The same for the file on a drive.
 pub fn images_on<R: Abort>(rt: &R, alloc: Global, disk: &MemDisk) -> Vec<Image> {
     let mut images = Vec::new(alloc);
     for moment in 0..=disk.moments() {
@@ -78,8 +79,8 @@ pub fn images_on<R: Abort>(rt: &R, alloc: Global, disk: &MemDisk) -> Vec<Image> 
     images
 }
 
-/// What a log was found to say: its version, how many cells, points, leaves, unfinished splits, and splits that were begun, and which
-/// objects.
+/// What a log was found to record: its version, the numbers of cells, points, leaves, unfinished splits, and splits
+/// that were begun, and its objects.
 #[derive(Drop)]
 pub struct Found {
     pub version: u8,
@@ -135,7 +136,7 @@ pub fn is_log_of<R: Abort>(
     file == log.as_slice()
 }
 
-/// Whether a run tells that the drive failed, at this cell if it is one.
+/// Whether a run reports that the drive failed, at this cell if there is one.
 pub fn is_refused<R: Abort>(rt: &R, alloc: Global, left: &Left, cell: Option<u64>) -> bool {
     match cell {
         Some(cell) => {

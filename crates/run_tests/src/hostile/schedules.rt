@@ -1,4 +1,4 @@
-//! `follow` by turns that are drawn, over logs of both widths: its lines and what NEW has are those of a plain machine.
+//! `follow` by drawn turns, over logs of both widths. Its lines and the cells of NEW are those of a plain machine.
 use crate::hostile::compacts::GROWN;
 use crate::hostile::crashes::WHOLE;
 use crate::hostile::draws::Draws;
@@ -45,7 +45,8 @@ fn turns_of(
     Ok(turns)
 }
 
-// NEW with the first so many records, and sometimes bytes behind them; where there are none, sometimes a file of 17 bytes.
+// NEW with the first of these records, and sometimes bytes after them. If there are no records, sometimes a file of 17
+// bytes.
 fn new_of(
     alloc: Global,
     draws: &mut Draws,
@@ -59,7 +60,8 @@ fn new_of(
     }
 }
 
-// Whether a file has so many of these records and no more, and ends with a clear commit byte, whose value stays where none came behind it.
+// Whether a file has exactly `held` of these records, and ends with a clear commit byte. The value of that byte stays
+// if nothing came after it.
 fn is_held(width: u8, file: &[u8], records: &[Record], held: usize) -> bool {
     let len = held.saturating_mul(32).saturating_add(17);
     front(width, file, records) == Some(held) && file.len() == len

@@ -1,5 +1,5 @@
-//! 16 sessions that share ids, over logs whose leaves split in two or in four: each line, and what the log keeps, is what one plain list
-//! has.
+//! 16 sessions that share ids, over logs whose leaves split in two or in four. Each line, and what the log keeps, is
+//! what one plain list has.
 use crate::hostile::draws::Draws;
 use crate::hostile::runs::{found_in, must, playing};
 use crate::memory::{EMPTY_LOG, EMPTY_QUAD_LOG, Left, run_plan};
@@ -13,7 +13,7 @@ use zorder::{Memory, Placed, Point, Region};
 // Row n is one of session 1 + (n - 1) mod 16.
 const ROWS: u32 = 480;
 
-// How many rows there are where most of them only ask, and how many change before that.
+// How many rows there are if most of them are queries, and how many change something before that.
 const ASKING_ROWS: u32 = 1_920;
 
 const FIRST_ROWS: u32 = 320;
@@ -70,7 +70,8 @@ fn ops_of(alloc: Global, seed: u64) -> Result<Vec<Op>, AllocError> {
     Ok(ops)
 }
 
-// After some rows of each kind, sessions that only ask, 100 rows each, beside so many that go on as before.
+// After some rows of each kind, sessions with only queries, 100 rows each, and as many sessions that continue as
+// before.
 fn asking_ops(alloc: Global, seed: u64, changing: u32) -> Result<Vec<Op>, AllocError> {
     let mut draws = Draws::new(seed);
     let mut ops = Vec::new(alloc);
@@ -133,7 +134,7 @@ fn input_of(alloc: Global, ops: &[Op]) -> Result<String, AllocError> {
     Ok(input)
 }
 
-// The word of an answer, and the position behind it.
+// The word of an answer, and the position after it.
 fn word_of(answer: &Answer) -> (&'static str, Option<Stamped>) {
     match answer {
         Answer::Done => ("done", None),
@@ -183,7 +184,8 @@ fn line_of(alloc: Global, row: u32, place: u64, answer: &Answer) -> Result<Strin
     Ok(line)
 }
 
-// What one plain list has behind the calls of a history, the line of each row, and how many rows of each session were called.
+// What one plain list has after the calls of a history, the line of each row, and how many rows of each session were
+// called.
 #[derive(Drop)]
 struct Tale {
     world: World,
@@ -210,7 +212,7 @@ impl Tale {
         })
     }
 
-    // Whether this is the session's next row, which is then called.
+    // Whether this is the session's next row. If so, it is called.
     fn is_next(&mut self, session: u8, row: u32) -> bool {
         let before = (session as u32).saturating_sub(1);
         let Some(slot) = self.called.get_mut(before as usize) else {

@@ -1,7 +1,7 @@
 //! Words and rows.
 use std::alloc::{AllocError, Global};
 
-/// An input that begins so, with a row so many times behind that.
+/// An input that begins with `front`, and then repeats a row `count` times.
 pub fn repeated(alloc: Global, front: &str, count: u32, row: &str) -> Result<String, AllocError> {
     let mut input = String::from_str(alloc, front)?;
     for _ in 0..count {

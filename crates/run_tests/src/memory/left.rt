@@ -2,7 +2,8 @@
 use disk_mem::MemDisk;
 use plain_list::{Entries, Entry};
 
-/// What a run left: its status, its history, what the sink took, both drives, and the attaches of each, a line each.
+/// What a run left: its status, its history, what the sink received, both drives, and the attaches of each, a line
+/// each.
 #[derive(Drop)]
 pub struct Left {
     pub status: u8,
@@ -15,12 +16,12 @@ pub struct Left {
 }
 
 impl Left {
-    /// Whether the run ended with this status, and the sink took this text.
+    /// Whether the run ended with this status, and the sink received this text.
     pub fn tells(&self, status: u8, text: &str) -> bool {
         self.status == status && self.taken.as_slice() == text.as_bytes()
     }
 
-    /// Whether these attaches reached the first drive, and none the other.
+    /// Whether these attaches reached the first drive, and none reached the other.
     pub fn has_attached(&self, attaches: &str) -> bool {
         self.others.is_empty() && self.attaches.as_str() == attaches
     }

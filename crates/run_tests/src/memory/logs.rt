@@ -3,7 +3,7 @@
 /// A log of no cells.
 pub const EMPTY_LOG: &[u8] = b"MDLOCLOG\x02\x01\0\0\0\0\0\0\0";
 
-/// A log of no cells whose splits make four children.
+/// A log of no cells whose splits create four children.
 pub const EMPTY_QUAD_LOG: &[u8] = b"MDLOCLOG\x02\x02\0\0\0\0\0\0\0";
 
 /// A log of put 7 at (3,5).
@@ -11,7 +11,8 @@ pub const PUT_LOG: &[u8] = b"MDLOCLOG\x02\x01\0\0\0\0\0\0\
     \x01\x01\0\0\0\0\0\0\0\x07\0\0\0\x03\0\0\0\x05\0\0\0\0\0\0\0\0\0\0\0\0\0\0\
     \0";
 
-/// A log of puts 1 to 5 at (0,0), (2147483648,0), (0,2147483648), (2147483648,2147483648) and (1,1), begin 1 of the empty name, and install 1.
+/// A log of puts 1 to 5 at (0,0), (2147483648,0), (0,2147483648), (2147483648,2147483648) and (1,1), begin 1 of the
+/// empty name, and install 1.
 pub const TWO_LEAVES_LOG: &[u8] = b"MDLOCLOG\x02\x01\0\0\0\0\0\0\
     \x01\x01\0\0\0\0\0\0\0\x01\0\0\0\0\0\0\0\0\0\0\0\0\0\0\0\0\0\0\0\0\0\0\
     \x01\x01\0\0\0\0\0\0\0\x02\x80\0\0\0\0\0\0\0\0\0\0\0\0\0\0\0\0\0\0\0\0\0\

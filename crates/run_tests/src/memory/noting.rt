@@ -5,7 +5,7 @@ use disk_mem::MemDisk;
 use disk_trait::{AttachFault, DiskFault, LogDisk};
 use std::alloc::{AllocError, Global};
 
-/// A drive in memory that notes each attach in a line: whether it makes or opens the file, and the name.
+/// A drive in memory that notes each attach in a line: whether it creates or opens the file, and the name.
 #[derive(Drop)]
 pub(crate) struct NotingDisk {
     pub(crate) disk: MemDisk,

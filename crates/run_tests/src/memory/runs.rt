@@ -13,8 +13,8 @@ use std::sync::Wait;
 use std::thread::Threads;
 use zorder::Memory;
 
-// How long a file may grow, and all that is written to it; how many calls may reach it; how much the sink takes. A few objects near each
-// other take up to 64 splits, of eight calls each.
+// How long a file may grow, and all that is written to it; how many calls may reach it; how much the sink accepts. A
+// few objects near each other take up to 64 splits, of eight calls each.
 const ROOM: usize = 1 << 16;
 
 const CALLS: usize = 1 << 14;
@@ -44,7 +44,7 @@ fn disk_of(alloc: Global, plan: &Plan<'_>) -> Result<MemDisk, Memory> {
     }
 }
 
-/// A drive that holds these bytes, of which these calls fail.
+/// A drive that holds these bytes. These of its calls fail.
 pub fn held_disk(alloc: Global, file: &[u8], failing: &[Fail]) -> Result<MemDisk, Memory> {
     let calls = failing.to_vec(alloc)?;
     MemDisk::new(alloc, file.to_vec(alloc)?, ROOM, CALLS, calls)
@@ -55,7 +55,7 @@ fn failing_disk(alloc: Global) -> Result<MemDisk, Memory> {
     MemDisk::new(alloc, Vec::new(alloc), 0, 0, Vec::new(alloc))
 }
 
-/// The same over this drive, in place of the planned one.
+/// The same over this drive instead of the planned one.
 pub fn run_over<R: Abort + Threads + Wait + Sync, G: Gate + Sync>(
     rt: &R,
     alloc: Global,
@@ -67,7 +67,7 @@ pub fn run_over<R: Abort + Threads + Wait + Sync, G: Gate + Sync>(
     run_drives(rt, alloc, plan, disk, other, gate)
 }
 
-/// A run as planned, with a second drive that holds these bytes, of which these calls fail.
+/// A run as planned, with a second drive that holds these bytes. These of its calls fail.
 pub fn run_both<R: Abort + Threads + Wait + Sync>(
     rt: &R,
     alloc: Global,

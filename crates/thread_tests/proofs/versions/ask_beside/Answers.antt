@@ -38,20 +38,20 @@ index = Numbered.the_row FlatIndex.the_row place
 index_send : IsSend index
 index_send = numbered.the_send FlatIndex.the_row place flat.the_send
 
--- a store over a numbered index may be shared by threads, and a pass of it go to another thread
+-- Threads may share a store over a numbered index, and a pass of it may go to another thread.
 numbered_store_sync : (held dropped : Dict) → IsSync (Store.the_row index Drive.the_row Brand.the_row place (indexed.ghosts FlatIndex.the_row place listed.ghosts held dropped) logged.ghosts started.ghosts)
 numbered_store_sync held dropped = store_sync index Drive.the_row Brand.the_row place (indexed.ghosts FlatIndex.the_row place listed.ghosts held dropped) logged.ghosts started.ghosts index_send drive.the_send brand.the_send
 
 numbered_pass_send : (held dropped : Dict) → IsSend (Pass.the_row (Shared.the_row index Drive.the_row Brand.the_row place (indexed.ghosts FlatIndex.the_row place listed.ghosts held dropped) logged.ghosts started.ghosts))
 numbered_pass_send held dropped = pass_send index Drive.the_row Brand.the_row place (indexed.ghosts FlatIndex.the_row place listed.ghosts held dropped) logged.ghosts started.ghosts index_send drive.the_send brand.the_send
 
--- a closure over five captures
+-- A closure over five captures.
 closure_send : (ν : Sym) (A B C D E : RattleType) → IsSend A → IsSend B → IsSend C → IsSend D → IsSend E → IsSend (TupleAt ν (A ∷ B ∷ C ∷ D ∷ E ∷ []))
 closure_send ν A B C D E a b c d e =
     let T : Declared = type_at ν (A ∷ B ∷ C ∷ D ∷ E ∷ []) in
     recorded_send (Struct (shape T)) T.D T.to T.to_one (struct_send (shape T) (a, (b, (c, (d, (e, tt))))))
 
--- the index's ghost members don't depend on dictionaries, so any will do
+-- The index's ghost members don't depend on dictionaries, so any dictionary will do.
 pub join_mut-answer-requires-send-F : goal.join_mut-answer-requires-send-F
 join_mut-answer-requires-send-F g c κs within =
     param_send 1 _ (arg_send _ no _ (closure_send _ _ _ _ _ _ (shr_send _ _ _ c.type_bounds.sync-R) (shr_send _ _ _ global.the_sync) (shr_send _ _ _ (numbered_store_sync g.R.Wait-dict g.R.Wait-dict)) (shr_send _ _ _ c.type_bounds.sync-G) (mut_send _ _ _ (numbered_pass_send g.R.Wait-dict g.R.Wait-dict))))

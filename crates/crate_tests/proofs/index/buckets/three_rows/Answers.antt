@@ -12,12 +12,12 @@ two = record { key = 1; id = 9 } ∷ record { key = 27; id = 7 } ∷ []
 abbrev more : Row
 more = record { key = 2; id = 4 }
 
--- a key below 2 ^ 63 begins with the bit 0
+-- A key below 2 ^ 63 begins with the bit 0.
 three-under : AreUnder (false ∷ []) (put_row more (as_base two)).rows
 unfolding key_bits
 three-under = (refl, (refl, (refl, tt)))
 
--- and one below 2 ^ 62 with 00
+-- A key below 2 ^ 62 begins with 00.
 three-below : AreUnder (false ∷ false ∷ []) (put_row more (as_base two)).rows
 unfolding key_bits
 three-below = (refl, (refl, (refl, tt)))
