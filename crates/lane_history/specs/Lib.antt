@@ -2,3 +2,4 @@ pub mod SessionRows
 pub mod LostSteps
 pub mod Kept
 pub mod Lanes
+pub mod Settled

@@ -20,7 +20,7 @@ use Rattle.run_ends.specs.Ends.{targets}
 use Rattle.run_ends.specs.Status.{status_of, WritesLines}
 use Rattle.play_run.specs.Origin.{Origin, new_origin}
 use Rattle.log_state.specs.Changes.{cells_of}
-use Rattle.lane_splits.specs.Settled.{SplitsAreDone, IsWithinLimits}
+use Rattle.lane_history.specs.Settled.{SplitsAreDone, IsWithinLimits}
 use Rattle.recovery.specs.Calls.{StopsAtFault}
 use Rattle.recovery.proofs.CallLemmas.{well-none}
 use Rattle.play_run.specs.Crash.{KeepsPlayed, KeepsText}

@@ -19,7 +19,7 @@ use Rattle.io_edge.specs.Streams.{Output}
 use Rattle.io_edge.specs.Puts.{Puts}
 use Rattle.lane_history.specs.LostSteps.{IsNextStep}
 use Rattle.kept_log.specs.Counts.{first_in}
-use Rattle.lane_splits.specs.Settled.{SplitsAreDone}
+use Rattle.lane_history.specs.Settled.{SplitsAreDone}
 use Rattle.run_ends.specs.declared.refusals.Refusal.{Refusal}
 use Rattle.run_ends.specs.declared.refusals.Refusal.TheVariants as refusal
 use Rattle.play_run.specs.declared.reports.Report.{Report}

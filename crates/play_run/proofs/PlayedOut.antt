@@ -20,7 +20,7 @@ use Rattle.sessions.proofs.StepLemmas.{cells-at}
 use Rattle.lane_history.specs.SessionRows.{session_rows}
 use Rattle.lane_history.specs.Lanes.{IsPlayedOut, OwnsAll}
 use Rattle.lane_history.specs.LostSteps.{IsNextStep, LosesStep}
-use Rattle.lane_splits.specs.Settled.{SplitsAreDone, IsWithinLimits}
+use Rattle.lane_history.specs.Settled.{SplitsAreDone, IsWithinLimits}
 use Rattle.play_run.specs.declared.lanes.LaneEnd.{LaneEnd}
 use Rattle.play_run.specs.inside.Dealt.{sessions_to}
 use Rattle.play_run.specs.inside.Joined.{HasRun, HasNotRun, HasAllParts}
@@ -29,8 +29,8 @@ use Rattle.play_run.specs.inside.Answered.{HasAnswers, ArePlayed, AreAnswered, I
 use Rattle.play_run.proofs.Dealing.{sessions-are}
 use Rattle.play_run.proofs.Answering.{has-answers}
 use Rattle.lane_history.proofs.PlayedOut.{played, whole, kept_right, loses}
-use Rattle.lane_splits.proofs.Settled.{settled}
-use Rattle.lane_splits.proofs.Limits.{within_limits}
+use Rattle.lane_history.proofs.Settled.{settled}
+use Rattle.lane_history.proofs.Limits.{within_limits}
 
 positive : (n : ℕ) → 0 < n → nat_lt 0 n ≡ true
 positive n lt = grind (arith, nat_tests)

@@ -9,7 +9,7 @@ use Rattle.plain_list.specs.declared.entries.Entry.TheVariants as entry
 use Rattle.plain_list.specs.State.{empty_state}
 use Rattle.plain_list.specs.History.{world_after}
 use Rattle.lane_history.specs.SessionRows.{row_place}
-use Rattle.lane_splits.specs.Settled.{stray_begins}
+use Rattle.lane_history.specs.Settled.{stray_begins}
 use Rattle.play_run.specs.Lines.{summary_of}
 
 -- two objects in a bucket of one row, a split of the whole space, and a find

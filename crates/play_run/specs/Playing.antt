@@ -33,7 +33,7 @@ use Rattle.play_run.specs.declared.reports.Report.{Report}
 use Rattle.play_run.specs.declared.reports.Report.TheVariants as reports
 use Rattle.play_run.specs.Answers.{AnswersAsOneList}
 use Rattle.kept_log.specs.Counts.{count_after}
-use Rattle.lane_splits.specs.Settled.{SplitsAreDone, IsWithinLimits}
+use Rattle.lane_history.specs.Settled.{SplitsAreDone, IsWithinLimits}
 use Rattle.play_run.specs.Crash.{KeepsPlayed, KeepsText}
 use Rattle.play_run.specs.Standing.{HoldsLog}
 

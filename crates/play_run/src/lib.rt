@@ -11,7 +11,7 @@
 //!
 //! Rows are played by lanes, one for each session, on one store.
 //!
-//! Not here: the store and its lanes (`sessions`, `lane_history`, `lane_splits`), rows and lines (`csv_rows`), the log
+//! Not here: the store and its lanes (`sessions`, `lane_history`), rows and lines (`csv_rows`), the log
 //! (`recovery`).
 #![tactic(auto)]
 

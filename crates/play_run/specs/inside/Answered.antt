@@ -16,7 +16,7 @@ use Rattle.sessions.specs.declared.store.lanes.KeptRow.{KeptRow}
 use Rattle.lane_history.specs.SessionRows.{session_rows}
 use Rattle.lane_history.specs.Kept.{AreRight}
 use Rattle.lane_history.specs.LostSteps.{IsNextStep, LosesStep}
-use Rattle.lane_splits.specs.Settled.{SplitsAreDone, IsWithinLimits}
+use Rattle.lane_history.specs.Settled.{SplitsAreDone, IsWithinLimits}
 use Rattle.io_edge.specs.Streams.{Output}
 use Rattle.run_ends.specs.declared.refusals.Refusal.TheVariants as refusal
 use Rattle.play_run.specs.declared.reports.Report.{Report}

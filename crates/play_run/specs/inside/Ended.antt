@@ -7,7 +7,7 @@ use Rattle.commit_book.specs.BookView.{BookView}
 use Rattle.csv_rows.specs.declared.rows.InRow.{InRow}
 use Rattle.io_edge.specs.Streams.{Output}
 use Rattle.lane_history.specs.LostSteps.{IsNextStep}
-use Rattle.lane_splits.specs.Settled.{SplitsAreDone, IsWithinLimits}
+use Rattle.lane_history.specs.Settled.{SplitsAreDone, IsWithinLimits}
 use Rattle.play_run.specs.declared.reports.Report.{Report}
 use Rattle.run_ends.specs.Status.{WritesLines}
 use Rattle.play_run.specs.Answers.{AnswersAsOneList}

@@ -10,7 +10,7 @@ use Rattle.plain_list.specs.declared.entries.Entry.{Entry}
 use Rattle.plain_list.specs.declared.entries.Entry.TheVariants.{Fail, Call, Begin, Install, Abandon}
 use Rattle.plain_list.specs.History.{call_count}
 use Rattle.plain_list.specs.State.{State, OpenSplit, split_name, without_number, without_name, is_possible, is_free, is_fail, is_empty, step, state_after, is_legal_history, IsLegal}
-use Rattle.lane_splits.proofs.Weights.{sum_of}
+use Rattle.lane_history.proofs.Weights.{sum_of}
 
 abbrev pub begins : Entry → ℕ
 begins (Begin number name) = 1

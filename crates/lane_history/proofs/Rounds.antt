@@ -4,9 +4,9 @@ use Rattle.std.specs.Prelude.{Bool}
 use Rattle.plain_list.specs.declared.ops.Op.{Op}
 use Rattle.plain_list.specs.declared.entries.Entry.{Entry}
 use Rattle.plain_list.specs.declared.entries.Entry.TheVariants.{Fail, Call, Begin}
-use Rattle.lane_splits.proofs.Weights.{weight, counted, counted-below, counted-past, counted-later, at}
-use Rattle.lane_splits.proofs.Entries.{begins, calls, ends, one-kind}
-use Rattle.lane_splits.proofs.Gains.{Puts, Idles, Closes, Begun, HasTried, HasCalled, crowd, puts-none, puts-past, puts-whole, puts-room, Gains, gains-later, gains-idle, gains-call}
+use Rattle.lane_history.proofs.Weights.{weight, counted, counted-below, counted-past, counted-later, at}
+use Rattle.lane_history.proofs.Entries.{begins, calls, ends, one-kind}
+use Rattle.lane_history.proofs.Gains.{Puts, Idles, Closes, Begun, HasTried, HasCalled, crowd, puts-none, puts-past, puts-whole, puts-room, Gains, gains-later, gains-idle, gains-call}
 
 -- what adds no begin and no call
 pub record Quiet (h : List Entry) (bad : ℕ → ℕ) (own new : List ℕ) : Type 0 where

@@ -16,8 +16,8 @@ use Rattle.sessions.specs.Lanes.{Tries}
 use Rattle.sessions.specs.declared.faults.Split.{Split}
 use Rattle.sessions.specs.declared.faults.Split.TheVariants.{Installed, NotSplit}
 use Rattle.sessions.proofs.SplitLemmas.{installs-same, not-same, same-none}
-use Rattle.lane_splits.proofs.Gains.{Puts, Idles, Closes, Begun, HasTried}
-use Rattle.lane_splits.proofs.Steps.{bad, IsCalm, length-added, puts-added, left-idle, calm-not, lasting-disk, begun-room}
+use Rattle.lane_history.proofs.Gains.{Puts, Idles, Closes, Begun, HasTried}
+use Rattle.lane_history.proofs.Steps.{bad, IsCalm, length-added, puts-added, left-idle, calm-not, lasting-disk, begun-room}
 
 -- memory ran out: nothing more is own
 record HasRan (mid seen : Known) : Type 0 where

@@ -19,8 +19,8 @@ use Rattle.book_lock.proofs.Histories.{get_prefix, get_last, prefix_trans}
 use Rattle.sessions.specs.Steps.{IsStep, Leaves, has_added, has_seen, cells_at}
 use Rattle.sessions.specs.Splits.{BeginsSplit, IsLasting, begin_cause, state_of}
 use Rattle.sessions.proofs.SettleLemmas.{allowed, has-room}
-use Rattle.lane_splits.specs.Settled.{IsBounded}
-use Rattle.lane_splits.proofs.Gains.{Puts, Idles}
+use Rattle.lane_history.specs.Settled.{IsBounded}
+use Rattle.lane_history.proofs.Gains.{Puts, Idles}
 
 -- 1 where so many entries and cells leave no room for the begin of a split
 abbrev pub bad : Origin → List Entry → ℕ → ℕ

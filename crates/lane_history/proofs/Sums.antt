@@ -16,11 +16,11 @@ use Rattle.book_lock.proofs.Positions.{one_if, one_same, one_other}
 use Rattle.sessions.specs.declared.store.lanes.Lane.{Lane}
 use Rattle.lane_history.specs.SessionRows.{session_rows, session_rows_from}
 use Rattle.lane_history.specs.Lanes.{HaveAllPlayed, HaveSeen, RiseFrom, owned_by}
-use Rattle.lane_splits.proofs.Weights.{weight, weight-nil, at}
-use Rattle.lane_splits.proofs.Entries.{begins, calls, ends}
-use Rattle.lane_splits.proofs.Gains.{crowd}
-use Rattle.lane_splits.proofs.Steps.{bad, IsCalm}
-use Rattle.lane_splits.proofs.Lanes.{lane-gains}
+use Rattle.lane_history.proofs.Weights.{weight, weight-nil, at}
+use Rattle.lane_history.proofs.Entries.{begins, calls, ends}
+use Rattle.lane_history.proofs.Gains.{crowd}
+use Rattle.lane_history.proofs.Steps.{bad, IsCalm}
+use Rattle.lane_history.proofs.Lanes.{lane-gains}
 
 -- what the own positions of lanes weigh
 abbrev pub lanes_weight : {I D O P : Type 0} → (ℕ → ℕ) → List (Lane I D O P) → ℕ → ℕ

@@ -16,10 +16,10 @@ use Rattle.sessions.specs.declared.faults.Settled.TheVariants.{Small, Room}
 use Rattle.sessions.specs.declared.faults.Split.TheVariants.{Installed, NotSplit}
 use Rattle.sessions.proofs.StepLemmas.{same-later}
 use Rattle.sessions.proofs.SplitLemmas.{begins-same, installs-same, same-none, split-same}
-use Rattle.lane_splits.proofs.Gains.{Idles, HasTried}
-use Rattle.lane_splits.proofs.Rounds.{Pairs, pairs-idle, pairs-end, pairs-begun, pairs-later}
-use Rattle.lane_splits.proofs.Steps.{bad, IsCalm, length-added, puts-added, left-idle, begun-room}
-use Rattle.lane_splits.proofs.Tries.{tried}
+use Rattle.lane_history.proofs.Gains.{Idles, HasTried}
+use Rattle.lane_history.proofs.Rounds.{Pairs, pairs-idle, pairs-end, pairs-begun, pairs-later}
+use Rattle.lane_history.proofs.Steps.{bad, IsCalm, length-added, puts-added, left-idle, begun-room}
+use Rattle.lane_history.proofs.Tries.{tried}
 
 pub all-splits-same : (w : ℕ) (old : Known) (numbers : List ℕ) (new : Known) → SplitsAll w old numbers new → SamePass old new
 all-splits-same w old [] new same = subst (SamePass old) (sym same) (same-none old)

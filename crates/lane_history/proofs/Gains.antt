@@ -6,8 +6,8 @@ use Rattle.plain_list.specs.declared.entries.Entry.{Entry}
 use Rattle.plain_list.specs.declared.entries.Entry.TheVariants.{Fail, Call, Begin}
 use Rattle.plain_list.specs.declared.entries.Lost.{Lost}
 use Rattle.book_lock.proofs.Histories.{get_below}
-use Rattle.lane_splits.proofs.Weights.{weight, weight-snoc, counted, counted-none, counted-below, at, at-is}
-use Rattle.lane_splits.proofs.Entries.{begins, calls, ends}
+use Rattle.lane_history.proofs.Weights.{weight, weight-snoc, counted, counted-none, counted-below, at, at-is}
+use Rattle.lane_history.proofs.Entries.{begins, calls, ends}
 
 -- this position, at which this entry stands, is own now
 pub record Puts (h : List Entry) (own new : List ℕ) (p : ℕ) (e : Entry) : Type 0 where

@@ -1,6 +1,6 @@
 -- A size that each entry makes larger by one at most, and that was small at each begin.
 use Rattle.std.proofs.Common.{◌≡◌, ℕ, zero, suc, ◌+◌, ◌*◌, ◌<◌, ◌≤◌, arith}
-use Rattle.lane_splits.proofs.Weights.{all_below}
+use Rattle.lane_history.proofs.Weights.{all_below}
 
 -- Below a position there are so many begins, calls, ends and failed appends, one at each position. The size was at most this where a split
 -- began, and then begins are at most the calls and ends, and one more.

@@ -22,7 +22,7 @@ use Rattle.sessions.specs.Splits.{begin_cause, state_of}
 use Rattle.sessions.specs.Settles.{SettleEnds}
 use Rattle.sessions.specs.declared.faults.Settled.{Settled}
 use Rattle.sessions.specs.declared.faults.Settled.TheVariants.{Small, Room}
-use Rattle.lane_splits.proofs.Tidy.{end-seen}
+use Rattle.lane_history.proofs.Tidy.{end-seen}
 
 sized-full : (w size : ℕ) (o : State) (h : List Entry) → (state_after w o h).splits ≡ [] → full_leaf w size (state_after w o h) ≡ None → IsSized w size (world_after o.world h) (state_after w o h).leaves
 sized-full w size o h ended none =

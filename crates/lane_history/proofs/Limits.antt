@@ -19,13 +19,13 @@ use Rattle.sessions.specs.declared.store.lanes.Lane.{Lane}
 use Rattle.lane_history.specs.SessionRows.{session_rows}
 use Rattle.lane_history.specs.Lanes.{IsPlayedOut, GoesOn, SettlesAfter}
 use Rattle.lane_history.proofs.PlayedOut.{whole}
-use Rattle.lane_splits.specs.Settled.{IsWithinLimits, begin_count, stray_begins}
-use Rattle.lane_splits.proofs.Weights.{weight-all, at, below-take, sum_of}
-use Rattle.lane_splits.proofs.Entries.{begins, calls, calls-count}
-use Rattle.lane_splits.proofs.Settled.{lanes-begins, few-stray}
-use Rattle.lane_splits.proofs.Bounded.{AreJoined, joined, bounded}
-use Rattle.lane_splits.proofs.Ends.{settles-same, settles-pairs}
-use Rattle.lane_splits.proofs.Tidy.{stray-append, goes-stray, most_stray}
+use Rattle.lane_history.specs.Settled.{IsWithinLimits, begin_count, stray_begins}
+use Rattle.lane_history.proofs.Weights.{weight-all, at, below-take, sum_of}
+use Rattle.lane_history.proofs.Entries.{begins, calls, calls-count}
+use Rattle.lane_history.proofs.Settled.{lanes-begins, few-stray}
+use Rattle.lane_history.proofs.Bounded.{AreJoined, joined, bounded}
+use Rattle.lane_history.proofs.Ends.{settles-same, settles-pairs}
+use Rattle.lane_history.proofs.Tidy.{stray-append, goes-stray, most_stray}
 
 begins-count : (h : List Entry) → begin_count h ≡ sum_of begins h
 begins-count [] = refl

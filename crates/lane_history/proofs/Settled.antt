@@ -15,14 +15,14 @@ use Rattle.sessions.specs.Settles.{Settles}
 use Rattle.sessions.specs.declared.faults.Settled.{Settled}
 use Rattle.sessions.specs.declared.store.lanes.Lane.{Lane}
 use Rattle.lane_history.specs.Lanes.{IsPlayedOut, OwnsAll}
-use Rattle.lane_splits.specs.Settled.{SplitsAreDone, stray_begins}
-use Rattle.lane_splits.proofs.Weights.{weight-all, at, below-take, sum_of}
-use Rattle.lane_splits.proofs.Entries.{begins, calls, ends, calls-count, sum-append, open-few}
-use Rattle.lane_splits.proofs.Steps.{IsCalm, take-prefix}
-use Rattle.lane_splits.proofs.Ends.{EndPairs, settles-same, settles-well, all-splits-same}
-use Rattle.lane_splits.proofs.Bounded.{AreJoined, joined, bounded}
-use Rattle.lane_splits.proofs.Tidy.{stray-append, GoesStray, goes-stray}
-use Rattle.lane_splits.proofs.Sized.{ended-sized}
+use Rattle.lane_history.specs.Settled.{SplitsAreDone, stray_begins}
+use Rattle.lane_history.proofs.Weights.{weight-all, at, below-take, sum_of}
+use Rattle.lane_history.proofs.Entries.{begins, calls, ends, calls-count, sum-append, open-few}
+use Rattle.lane_history.proofs.Steps.{IsCalm, take-prefix}
+use Rattle.lane_history.proofs.Ends.{EndPairs, settles-same, settles-well, all-splits-same}
+use Rattle.lane_history.proofs.Bounded.{AreJoined, joined, bounded}
+use Rattle.lane_history.proofs.Tidy.{stray-append, GoesStray, goes-stray}
+use Rattle.lane_history.proofs.Sized.{ended-sized}
 
 -- in a calm history that was settled well, begins are no more than ends
 even-sums : (origin : Origin) (pass last : Known) (most : ℕ) → AreJoined origin last.seen pass.own most → EndPairs origin last.seen (Unit {0}) pass last → OwnsAll last → IsCalm origin last.seen

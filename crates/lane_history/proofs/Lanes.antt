@@ -16,10 +16,10 @@ use Rattle.sessions.specs.Calls.{CallLeaves}
 use Rattle.sessions.specs.Lanes.{KeepsRow, KeepsAll, Stops}
 use Rattle.sessions.proofs.LanePasses.{tries-same, keeps-same, all-same, stops-same}
 use Rattle.lane_history.specs.Lanes.{HasPlayedLane}
-use Rattle.lane_splits.proofs.Gains.{HasTried, Gains, gains-none, gains-fail, gains-call, gains-later}
-use Rattle.lane_splits.proofs.Rounds.{gains-called}
-use Rattle.lane_splits.proofs.Steps.{bad, IsCalm, length-added, puts-added}
-use Rattle.lane_splits.proofs.Tries.{told-tried}
+use Rattle.lane_history.proofs.Gains.{HasTried, Gains, gains-none, gains-fail, gains-call, gains-later}
+use Rattle.lane_history.proofs.Rounds.{gains-called}
+use Rattle.lane_history.proofs.Steps.{bad, IsCalm, length-added, puts-added}
+use Rattle.lane_history.proofs.Tries.{told-tried}
 
 -- a lane's counts from one pass to another
 abbrev pub LaneGains : Origin → List Entry → List ℕ → List ℕ → ℕ → Type 0

@@ -24,11 +24,11 @@ use Rattle.sessions.specs.declared.faults.Settled.{Settled}
 use Rattle.sessions.specs.declared.faults.Settled.TheVariants.{Small, Room}
 use Rattle.sessions.specs.declared.faults.Split.TheVariants.{Installed}
 use Rattle.sessions.proofs.SplitLemmas.{split-same}
-use Rattle.lane_splits.specs.Settled.{stray_begins, is_stray, is_full_leaf, abandons}
-use Rattle.lane_splits.proofs.Weights.{sum_of}
-use Rattle.lane_splits.proofs.Entries.{begins}
-use Rattle.lane_splits.proofs.Steps.{seen-added, left-seen}
-use Rattle.lane_splits.proofs.Ends.{all-splits-same}
+use Rattle.lane_history.specs.Settled.{stray_begins, is_stray, is_full_leaf, abandons}
+use Rattle.lane_history.proofs.Weights.{sum_of}
+use Rattle.lane_history.proofs.Entries.{begins}
+use Rattle.lane_history.proofs.Steps.{seen-added, left-seen}
+use Rattle.lane_history.proofs.Ends.{all-splits-same}
 
 -- stray begins of a history are no more than the begins of its first part and the stray ones of the rest
 pub stray-append : (w size : ℕ) (s : State) (g d : List Entry) → stray_begins w size s (g ++ d) ≤ sum_of begins g + stray_begins w size (state_after w s g) d

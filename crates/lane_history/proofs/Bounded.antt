@@ -19,14 +19,14 @@ use Rattle.sessions.specs.Steps.{cells_at}
 use Rattle.sessions.specs.declared.store.lanes.Lane.{Lane}
 use Rattle.lane_history.specs.Lanes.{IsPlayedOut, GoesOn}
 use Rattle.sessions.proofs.SettleLemmas.{cells-added}
-use Rattle.lane_splits.specs.Settled.{IsBounded}
-use Rattle.lane_splits.proofs.Weights.{weight, weight-all, all_below, at, at-is, below-take}
-use Rattle.lane_splits.proofs.Entries.{begins, calls, ends, fails, one-kind, legal-begin, one-fail, open-few}
-use Rattle.lane_splits.proofs.Bounds.{AreFew, size-few}
-use Rattle.lane_splits.proofs.Gains.{crowd}
-use Rattle.lane_splits.proofs.Steps.{bad, IsCalm, take-prefix}
-use Rattle.lane_splits.proofs.Ends.{EndPairs, settles-same, settles-pairs}
-use Rattle.lane_splits.proofs.Sums.{Together, together, lanes_weight, lanes-weight, rows_of, rows-few}
+use Rattle.lane_history.specs.Settled.{IsBounded}
+use Rattle.lane_history.proofs.Weights.{weight, weight-all, all_below, at, at-is, below-take}
+use Rattle.lane_history.proofs.Entries.{begins, calls, ends, fails, one-kind, legal-begin, one-fail, open-few}
+use Rattle.lane_history.proofs.Bounds.{AreFew, size-few}
+use Rattle.lane_history.proofs.Gains.{crowd}
+use Rattle.lane_history.proofs.Steps.{bad, IsCalm, take-prefix}
+use Rattle.lane_history.proofs.Ends.{EndPairs, settles-same, settles-pairs}
+use Rattle.lane_history.proofs.Sums.{Together, together, lanes_weight, lanes-weight, rows_of, rows-few}
 
 -- What the pass that took the lanes' passes in comes to: begins are no more than calls, none is without room, calls are at most so many, and
 -- in a calm history begins are no more than ends.
