@@ -11,6 +11,7 @@
 #![tactic(auto)]
 
 mod faults;
+mod points;
 mod queries;
 mod sending;
 mod shared;
