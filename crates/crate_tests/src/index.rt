@@ -12,4 +12,5 @@ mod queries;
 mod spots;
 mod spread;
 mod ties;
+mod views;
 mod walks;

@@ -9,5 +9,6 @@ pub mod SplitLemmas
 pub mod LaneLemmas
 pub mod LanePasses
 pub mod Renewals
+pub mod Views
 pub mod RunLemmas
 pub mod SettleLemmas

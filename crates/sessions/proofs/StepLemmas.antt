@@ -87,6 +87,11 @@ module _ {D A : Type 0} (drive : D → Drive) (IsFree : BookFault → Type 0) (c
 adds : (old took back : Known) (entries : List Entry) (e : Entry) → old.holds ≡ false → took ≡ record old { seen = took.seen; holds = true } → entries ≡ took.seen ++ e ∷ [] → back ≡ has_given took true entries → back ≡ has_added old took.seen e
 adds old took back entries e off took_is entries_is back_is = back_is ∙ (λ i. record (took_is i) { seen = entries_is i; own = (took_is i).own ++ length took.seen ∷ []; holds = sym off i })
 
+-- who has given a book back doesn't hold the lock
+pub given-free : (pass : Known) (grown : Bool) (entries : List Entry) → (has_given pass grown entries).holds ≡ false
+given-free pass true entries = refl
+given-free pass false entries = refl
+
 pub sees : (old took back : Known) (entries : List Entry) → old.holds ≡ false → took ≡ record old { seen = took.seen; holds = true } → back ≡ has_given took false entries → back ≡ has_seen old took.seen
 sees old took back entries off took_is back_is = back_is ∙ (λ i. record (took_is i) { holds = false }) ∙ (λ i. record old { seen = took.seen; holds = sym off i })
 

@@ -2,6 +2,7 @@ pub mod Shared
 pub mod Steps
 pub mod Standing
 pub mod Opens
+pub mod Views
 pub mod Calls
 pub mod Splits
 pub mod Lanes

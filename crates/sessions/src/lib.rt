@@ -5,12 +5,13 @@
 //! split and ends it; `Store::run_lanes` plays the rows of several sessions, each row by one call; `Store::settle` makes the splits that
 //! are due at the end. Each refusal has its cause over the history that was seen under the lock. `Store::close` gives the book, whose
 //! history is what the last pass has seen, and whose log goes on from the opening (`Start`); `Store::renew` makes a store of it whose
-//! history is empty. `Store::room` tells how much room there is, and `Store::world` copies the objects.
+//! history is empty. `Store::room` tells how much room there is, `Store::world` copies the objects, and `Store::view` returns the index.
 //!
 //! Not here: what a step does to the book (`commit_book`), how the lock works (`book_lock`), and what rows come from (`csv_rows`).
 #![tactic(auto)]
 
 mod faults;
+mod points;
 mod queries;
 mod sending;
 mod shared;

@@ -3,7 +3,7 @@ ghost use Rattle.std.specs.Prelude.{◌≡◌, ◌+◌, ◌<◌, ◌^◌, Some, 
 ghost use Rattle.zorder.specs.Key.{IsPoint};
 ghost use Rattle.plain_list.specs.Answer.{FitsOp};
 ghost use Rattle.plain_list.specs.World.{places_of, IsWorld};
-ghost use Rattle.plain_list.specs.History.{world_after};
+ghost use Rattle.plain_list.specs.History.{call_count, world_after};
 ghost use Rattle.plain_list.specs.State.{state_after};
 ghost use Rattle.plain_list.specs.declared.entries.Lost.{Lost};
 ghost use Rattle.index_layer.specs.Stands.{Stands};
@@ -190,6 +190,20 @@ impl<I: Index, D: LogDisk, O: Start> SharedBook<I, D, O> {
         ensures world { HasWorld self.now }
     {
         self.book.glance()
+    }
+
+    /// The index, and the place of the last call.
+    pub(crate) fn view(&self) -> Result<Snapshot<I>, Memory>
+        ensures index { IfOk result (λ s. StandsAfter I.WIDTH self.now (I.leaves s.index)) }
+        ensures place { IfOk result (λ s. s.place ≡ call_count self.now.entries) }
+        ensures world { HasWorld self.now }
+        ensures book { IsBook D.drive I.WIDTH self.now }
+    {
+        let index = self.book.glance()?;
+        Ok(Snapshot {
+            index,
+            place: self.book.calls(),
+        })
     }
 
     /// As of the book.

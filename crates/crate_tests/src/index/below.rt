@@ -49,8 +49,8 @@ fn change_one<I: Index>(
     }
 }
 
-// Splits the leaf that a key is under, unless its name is long.
-fn split_over<I: Index>(alloc: Global, index: &mut I, key: u64) -> Result<(), Undone> {
+/// Splits the leaf that a key is under, unless its name is long.
+pub(crate) fn split_over<I: Index>(alloc: Global, index: &mut I, key: u64) -> Result<(), Undone> {
     let (name, bucket) = index.leaf_of(key);
     if name.len() >= MOST_BITS {
         return Ok(());

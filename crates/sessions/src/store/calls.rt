@@ -8,6 +8,7 @@ ghost use Rattle.sessions.specs.Splits.{SamePass};
 
 use super::Store;
 use crate::faults::{CallFault, call_fault};
+use crate::points::Points;
 use crate::queries::ask;
 use crate::shared::SharedBook;
 use crate::start::Start;
@@ -62,7 +63,8 @@ impl<I: Index, D: LogDisk, O: Start> Store<I, D, O> {
         requires lock { pass.old.lock ≡ self.now }
         requires off { pass.old.holds ≡ false }
         requires query { IsQuery request.now.op }
-        ensures { Looks I.leaves I.WIDTH request.now.session request.now.row request.now.op pass.old pass.new result }
+        ensures looks { Looks I.leaves I.WIDTH request.now.session request.now.row request.now.op pass.old pass.new result }
+        ensures free { pass.new.holds ≡ false }
     {
         let mut book = self.take(rt, pass);
         let answer = book.snapshot(request.session, request.row, &request.op);
@@ -77,7 +79,7 @@ impl<I: Index, D: LogDisk, O: Start> Store<I, D, O> {
         alloc: Global,
         pass: &mut Pass<SharedBook<I, D, O>>,
         request: &Request,
-        gate: &G,
+        points: &Points<'_, G>,
         steps: &mut Steps<L>,
     ) -> Result<Done, CallFault>
         requires lock { pass.old.lock ≡ self.now }
@@ -96,9 +98,9 @@ impl<I: Index, D: LogDisk, O: Start> Store<I, D, O> {
             // Another lane has the store meanwhile.
             self.lock.rouse();
         }
-        gate.reach(GatePoint::Taken, request.session);
+        points.reach(GatePoint::Taken, request.session, pass);
         let place = shown.place;
-        match ask(alloc, &shown.index, &request.op, steps) {
+        match ask(alloc, &shown.index, &request.op, steps, pass) {
             Ok(answer) => Ok(Done {
                 place,
                 answer,
@@ -115,7 +117,7 @@ impl<I: Index, D: LogDisk, O: Start> Store<I, D, O> {
         alloc: Global,
         pass: &mut Pass<SharedBook<I, D, O>>,
         request: &Request,
-        gate: &G,
+        points: &Points<'_, G>,
         steps: &mut Steps<L>,
     ) -> Result<Done, CallFault>
         requires lock { pass.old.lock ≡ self.now }
@@ -126,10 +128,41 @@ impl<I: Index, D: LogDisk, O: Start> Store<I, D, O> {
         ensures refused { IfErr result (λ fault. OpensRefused fault steps.old steps.new) }
     {
         match request.op {
-            Op::Within { .. } => self.query(rt, alloc, pass, request, gate, steps),
-            Op::Near { .. } => self.query(rt, alloc, pass, request, gate, steps),
+            Op::Within { .. } => self.query(rt, alloc, pass, request, points, steps),
+            Op::Near { .. } => self.query(rt, alloc, pass, request, points, steps),
             _ => self.update(rt, pass, request).map_err(call_fault),
         }
+    }
+
+    // Answers a call, and notes it.
+    pub(super) fn call_at<R: Wait, G: Gate, L: Ledger>(
+        &self,
+        rt: &R,
+        alloc: Global,
+        pass: &mut Pass<SharedBook<I, D, O>>,
+        session: u8,
+        row: u32,
+        op: &Op,
+        points: &Points<'_, G>,
+        steps: &mut Steps<L>,
+    ) -> Result<Done, CallFault>
+        requires lock { pass.old.lock ≡ self.now }
+        requires off { pass.old.holds ≡ false }
+        requires valid { IsValid op.now }
+        ensures called { Called I.WIDTH session row op.now pass.old pass.new result }
+        ensures opened { Opens op.now (leaves_seen I.WIDTH pass.new) (places_seen pass.new) (listed_by (λ done. done.answer) result) steps.old steps.new }
+        ensures refused { IfErr result (λ fault. OpensRefused fault steps.old steps.new) }
+        ensures pass { SamePass pass.old pass.new }
+    {
+        pass.will_read(is_read(op));
+        let request = Request {
+            session,
+            row,
+            op: *op,
+        };
+        let answer = self.answer(rt, alloc, pass, &request, points, steps);
+        points.reach(GatePoint::Answered, session, pass);
+        answer
     }
 
     /// Answers a call, and notes it in the one history. A query is computed outside the lock, on a snapshot. The gate's points are
@@ -153,15 +186,8 @@ impl<I: Index, D: LogDisk, O: Start> Store<I, D, O> {
         ensures refused { IfErr result (λ fault. OpensRefused fault steps.old steps.new) }
         ensures pass { SamePass pass.old pass.new }
     {
-        pass.will_read(is_read(op));
-        let request = Request {
-            session,
-            row,
-            op: *op,
-        };
-        let answer = self.answer(rt, alloc, pass, &request, gate, steps);
-        gate.reach(GatePoint::Answered, session);
-        answer
+        let points = Points::at(gate);
+        self.call_at(rt, alloc, pass, session, row, op, &points, steps)
     }
 }
 

@@ -7,6 +7,7 @@ ghost use Rattle.sessions.specs.Splits.{SamePass};
 use super::Store;
 use super::runs::{Pace, Run};
 use crate::faults::{CallFault, Split};
+use crate::points::Points;
 use crate::shared::SharedBook;
 use crate::start::Start;
 use book_lock::Pass;
@@ -55,7 +56,7 @@ impl<I: Index, D: LogDisk, O: Start> Store<I, D, O> {
         pass: &mut Pass<SharedBook<I, D, O>>,
         session: u8,
         full: Option<Name>,
-        gate: &G,
+        points: &Points<'_, G>,
     ) -> Option<Split>
         requires lock { pass.old.lock ≡ self.now }
         requires off { pass.old.holds ≡ false }
@@ -63,7 +64,7 @@ impl<I: Index, D: LogDisk, O: Start> Store<I, D, O> {
         ensures pass { SamePass pass.old pass.new }
     {
         match full {
-            Some(name) => Some(self.split_once(rt, alloc, pass, session, &name, gate)),
+            Some(name) => Some(self.split_at(rt, alloc, pass, session, &name, points)),
             None => None,
         }
     }
@@ -75,7 +76,7 @@ impl<I: Index, D: LogDisk, O: Start> Store<I, D, O> {
         alloc: Global,
         lane: &mut Lane<I, D, O>,
         i: usize,
-        gate: &G,
+        points: &Points<'_, G>,
         steps: &mut Steps<L>,
     ) -> bool
         requires lock { (lane.old.pass.lock ≡ self.now) × (lane.old.pass.holds ≡ false) }
@@ -86,14 +87,14 @@ impl<I: Index, D: LogDisk, O: Start> Store<I, D, O> {
         ensures { Advances I.WIDTH i lane.old lane.new result }
     {
         let (row, op) = lane.rows[i];
-        let done = match self.call(
+        let done = match self.call_at(
             rt,
             alloc,
             &mut lane.pass,
             lane.session,
             row,
             &op,
-            gate,
+            points,
             steps,
         ) {
             Ok(done) => done,
@@ -102,7 +103,7 @@ impl<I: Index, D: LogDisk, O: Start> Store<I, D, O> {
                 return false;
             }
         };
-        let split = self.try_split(rt, alloc, &mut lane.pass, lane.session, done.full, gate);
+        let split = self.try_split(rt, alloc, &mut lane.pass, lane.session, done.full, points);
         let kept = KeptRow {
             row,
             place: done.place,
@@ -120,7 +121,7 @@ impl<I: Index, D: LogDisk, O: Start> Store<I, D, O> {
         alloc: Global,
         lane: &mut Lane<I, D, O>,
         i: usize,
-        gate: &G,
+        points: &Points<'_, G>,
         steps: &mut Steps<L>,
         pace: &mut Pace,
     ) -> Option<usize>
@@ -131,11 +132,11 @@ impl<I: Index, D: LogDisk, O: Start> Store<I, D, O> {
         requires fault { lane.old.fault ≡ None }
         ensures { GoesOn I.WIDTH i lane.old lane.new result }
     {
-        match self.play_run(rt, alloc, lane, i, gate, steps, pace) {
+        match self.play_run(rt, alloc, lane, i, points, steps, pace) {
             Run::Played { next } => Some(next),
             Run::Refused => None,
             Run::Left => {
-                if self.play_row(rt, alloc, lane, i, gate, steps) {
+                if self.play_row(rt, alloc, lane, i, points, steps) {
                     Some(i + 1)
                 } else {
                     None
@@ -150,7 +151,7 @@ impl<I: Index, D: LogDisk, O: Start> Store<I, D, O> {
         rt: &R,
         alloc: Global,
         lane: &mut Lane<I, D, O>,
-        gate: &G,
+        points: &Points<'_, G>,
         blank: Blank,
     )
         requires name { blank.name ≡ L.name }
@@ -163,7 +164,7 @@ impl<I: Index, D: LogDisk, O: Start> Store<I, D, O> {
         let mut pace = Pace::new();
         let mut i = 0;
         while i < lane.rows.len() {
-            match self.play_next(rt, alloc, lane, i, gate, &mut steps, &mut pace) {
+            match self.play_next(rt, alloc, lane, i, points, &mut steps, &mut pace) {
                 Some(next) => i = next,
                 None => return,
             }
@@ -175,8 +176,9 @@ impl<I: Index, D: LogDisk, O: Start> Store<I, D, O> {
         requires ready { IsReadyLane self.now lane.old }
         ensures { PlaysLane I.WIDTH lane.old lane.new }
     {
+        let points = Points::at(gate);
         lane.pass.in_batch(true);
-        self.play_rows::<R, G, Brand>(rt, alloc, lane, gate, Blank::new(1));
+        self.play_rows::<R, G, Brand>(rt, alloc, lane, &points, Blank::new(1));
         lane.pass.in_batch(false);
         self.lock.rouse();
     }

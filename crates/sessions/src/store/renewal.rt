@@ -1,4 +1,4 @@
-//! A store that goes on with an empty history, the room that is left in one, and the objects as they are.
+//! A store that goes on with an empty history, the room that is left in one, and the objects as they are, copied or as a view.
 ghost use Rattle.std.specs.Prelude.{◌≡◌, ℕ, length, false, IfOk, IfErr};
 ghost use Rattle.book_lock.specs.Own.{times, once_below};
 ghost use Rattle.plain_list.specs.History.{world_after};
@@ -9,12 +9,13 @@ ghost use Rattle.sessions.specs.Renewals.{room_at, store_refusal, refusal_of, Co
 ghost use Rattle.sessions.specs.Runs.{HasLooked};
 ghost use Rattle.sessions.specs.Shared.{StartsAs};
 ghost use Rattle.sessions.specs.Steps.{all_parts};
+ghost use Rattle.sessions.specs.Views.{IsView};
 
 use super::Store;
 use crate::shared::SharedBook;
 use crate::start::Start;
 use book_lock::{BookLock, Pass};
-use commit_book::{Book, RenewFault, Room};
+use commit_book::{Book, RenewFault, Room, Snapshot};
 use disk_trait::LogDisk;
 use index_layer::Index;
 use plain_list::{Entries, World};
@@ -70,6 +71,40 @@ impl<I: Index, D: LogDisk, O: Start> Store<I, D, O> {
         let world = book.world();
         self.put_back(pass, book, false);
         world
+    }
+
+    // Returns the index and the place of the last call, and lets another lane go on.
+    fn look_at<R: Wait>(
+        &self,
+        rt: &R,
+        pass: &mut Pass<SharedBook<I, D, O>>,
+    ) -> Result<Snapshot<I>, Memory>
+        requires lock { pass.old.lock ≡ self.now }
+        requires off { pass.old.holds ≡ false }
+        ensures looked { HasLooked pass.old pass.new }
+        ensures view { IfOk result (λ s. IsView I.WIDTH (I.leaves s.index) s.place pass.new) }
+    {
+        let book = self.take(rt, pass);
+        let view = book.view();
+        self.put_back(pass, book, false);
+        self.lock.rouse();
+        view
+    }
+
+    /// Returns the index after all that the pass has seen, which no later call changes, and the place of the last call there. It adds no
+    /// entry, and other callers wait only until two pointers are copied.
+    pub fn view<R: Wait>(
+        &self,
+        rt: &R,
+        pass: &mut Pass<SharedBook<I, D, O>>,
+    ) -> Result<Snapshot<I>, Memory>
+        requires lock { pass.old.lock ≡ self.now }
+        requires off { pass.old.holds ≡ false }
+        ensures looked { HasLooked pass.old pass.new }
+        ensures view { IfOk result (λ s. IsView I.WIDTH (I.leaves s.index) s.place pass.new) }
+    {
+        pass.will_read(true);
+        self.look_at(rt, pass)
     }
 
     /// Ends the store, and begins one with an empty history where that one's ends: the objects, the leaves and the log stay where they are.

@@ -8,6 +8,7 @@ ghost use Rattle.sessions.specs.Runs.{HasLooked, Sees, AreQueries, Answers, Answ
 use super::Store;
 use super::lanes::{KeptRow, Lane, push_within};
 use crate::faults::call_fault;
+use crate::points::Points;
 use crate::queries::ask;
 use crate::shared::SharedBook;
 use crate::start::Start;
@@ -119,10 +120,11 @@ fn answer_rows<I: Index, D: LogDisk, O: Start, G: Gate, L: Ledger>(
     i: usize,
     end: usize,
     index: &I,
-    gate: &G,
+    points: &Points<'_, G>,
     steps: &mut Steps<L>,
 ) -> usize
     requires after { i ≤ end }
+    requires free { lane.old.pass.holds ≡ false }
     requires queries { AreQueries i end lane.old.rows.items }
     requires room { vec_len lane.old.kept + end ≤ vec_capacity lane.old.kept + i }
     ensures within { (i ≤ result) × (result ≤ end) }
@@ -130,8 +132,8 @@ fn answer_rows<I: Index, D: LogDisk, O: Start, G: Gate, L: Ledger>(
 {
     for k in i..end {
         let (row, op) = lane.rows[k];
-        gate.reach(GatePoint::Taken, lane.session);
-        let Ok(answer) = ask(alloc, index, &op, steps) else {
+        points.reach(GatePoint::Taken, lane.session, &lane.pass);
+        let Ok(answer) = ask(alloc, index, &op, steps, &lane.pass) else {
             return k;
         };
         let kept = KeptRow {
@@ -146,9 +148,11 @@ fn answer_rows<I: Index, D: LogDisk, O: Start, G: Gate, L: Ledger>(
 }
 
 // Tells the hook of rows whose answers stand.
-fn reach_all<G: Gate>(gate: &G, session: u8, rows: usize) {
+fn reach_all<G: Gate, V>(points: &Points<'_, G>, session: u8, rows: usize, pass: &Pass<V>)
+    requires free { pass.now.holds ≡ false }
+{
     for _ in 0..rows {
-        gate.reach(GatePoint::Answered, session);
+        points.reach(GatePoint::Answered, session, pass);
     }
 }
 
@@ -220,7 +224,8 @@ impl<I: Index, D: LogDisk, O: Start> Store<I, D, O> {
         requires queries { AreQueries i end lane.old.rows.items }
         requires rows { (i < end) × (lane.old.fault ≡ None) × (vec_len lane.old.kept + i ≡ base + end) }
         requires answers { AnswersIn (world_after lane.old.pass.origin.world lane.old.pass.seen) i end (take base lane.old.kept.items) lane.old }
-        ensures { (start : Lane I D O I.Place) → Stood base start lane.old → RunEnds I.WIDTH i start lane.new result }
+        ensures ends { (start : Lane I D O I.Place) → Stood base start lane.old → RunEnds I.WIDTH i start lane.new result }
+        ensures free { lane.new.pass.holds ≡ false }
     {
         let mut book = self.take(rt, &mut lane.pass);
         if !book.is_still_since(sight.events) {
@@ -243,7 +248,7 @@ impl<I: Index, D: LogDisk, O: Start> Store<I, D, O> {
         alloc: Global,
         lane: &mut Lane<I, D, O>,
         i: usize,
-        gate: &G,
+        points: &Points<'_, G>,
         steps: &mut Steps<L>,
         pace: &mut Pace,
     ) -> Run
@@ -261,7 +266,7 @@ impl<I: Index, D: LogDisk, O: Start> Store<I, D, O> {
         if end - i < LEAST_RUN {
             return Run::Left;
         }
-        let run = self.run_rows(rt, alloc, lane, i, end, gate, steps);
+        let run = self.run_rows(rt, alloc, lane, i, end, points, steps);
         pace.learn(!matches!(run, Run::Left));
         run
     }
@@ -274,7 +279,7 @@ impl<I: Index, D: LogDisk, O: Start> Store<I, D, O> {
         lane: &mut Lane<I, D, O>,
         i: usize,
         end: usize,
-        gate: &G,
+        points: &Points<'_, G>,
         steps: &mut Steps<L>,
     ) -> Run
         requires lock { (lane.old.pass.lock ≡ self.now) × (lane.old.pass.holds ≡ false) }
@@ -289,12 +294,13 @@ impl<I: Index, D: LogDisk, O: Start> Store<I, D, O> {
             return Run::Left;
         };
         let base = lane.kept.len();
-        let answered = answer_rows(alloc, lane, i, end, &sight.index, gate, steps);
+        let answered = answer_rows(alloc, lane, i, end, &sight.index, points, steps);
         if answered == i {
             return Run::Left;
         }
         let run = self.keep_rows(rt, lane, i, answered, base, &sight);
-        reach_all(gate, lane.session, lane.kept.len().saturating_sub(base));
+        let rows = lane.kept.len().saturating_sub(base);
+        reach_all(points, lane.session, rows, &lane.pass);
         run
     }
 }

@@ -8,6 +8,7 @@ ghost use Rattle.sessions.specs.Steps.{all_parts};
 
 use super::Store;
 use crate::faults::{Settled, Split, settle_fault};
+use crate::points::Points;
 use crate::shared::SharedBook;
 use crate::start::Start;
 use book_lock::Pass;
@@ -45,7 +46,7 @@ impl<I: Index, D: LogDisk, O: Start> Store<I, D, O> {
         alloc: Global,
         pass: &mut Pass<SharedBook<I, D, O>>,
         name: &Name,
-        gate: &G,
+        points: &Points<'_, G>,
     ) -> Split
         requires lock { pass.old.lock ≡ self.now }
         requires off { pass.old.holds ≡ false }
@@ -56,7 +57,7 @@ impl<I: Index, D: LogDisk, O: Start> Store<I, D, O> {
         ensures fault { SplitFault IsNextFault result }
         ensures pass { SamePass pass.old pass.new }
     {
-        self.split_once(rt, alloc, pass, 0, name, gate)
+        self.split_at(rt, alloc, pass, 0, name, points)
     }
 
     /// Splits the leaf that is to be split next, until there is none, or no room for its split. It reaches the gate's points as lane 0.
@@ -73,13 +74,14 @@ impl<I: Index, D: LogDisk, O: Start> Store<I, D, O> {
         ensures settles { Settles I.WIDTH pass.old pass.new result }
         ensures pass { SamePass pass.old pass.new }
     {
+        let points = Points::at(gate);
         for _ in rt.forever() {
             let name = match self.next(rt, pass) {
                 Ok(Some(name)) => name,
                 Ok(None) => return Ok(Settled::Small),
                 Err(fault) => return Err(fault),
             };
-            match self.split_next(rt, alloc, pass, &name, gate) {
+            match self.split_next(rt, alloc, pass, &name, &points) {
                 Split::Installed { number: _ } => {}
                 Split::NotSplit(BookFault::Room { .. }) => return Ok(Settled::Room),
                 Split::NotSplit(fault) => return Err(settle_fault(fault)),

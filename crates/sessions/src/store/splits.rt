@@ -7,6 +7,7 @@ ghost use Rattle.sessions.specs.Splits.{number_of, HasBegun, BeginsSplit, Instal
 
 use super::Store;
 use crate::faults::{Split, lasting};
+use crate::points::{Points, prepare_free};
 use crate::shared::SharedBook;
 use crate::start::Start;
 use book_lock::Pass;
@@ -14,7 +15,7 @@ use commit_book::BookFault;
 use disk_trait::LogDisk;
 use index_layer::Index;
 use io_edge::{Gate, GatePoint};
-use split_prepare::{Prepared, SplitTicket, prepare};
+use split_prepare::{Prepared, SplitTicket};
 use std::alloc::Global;
 use std::sync::Wait;
 use zorder::Name;
@@ -33,6 +34,7 @@ impl<I: Index, D: LogDisk, O: Start> Store<I, D, O> {
         ensures begun { IfOk result (λ t. HasBegun pass.new t.number name.now (arc_value t.bucket).base) }
         ensures name { IfOk result (λ t. t.name ≡ name.now) }
         ensures ticket { IfOk result (λ t. CanPrepare I.WIDTH t) }
+        ensures free { pass.new.holds ≡ false }
     {
         let mut book = self.take(rt, pass);
         let answer = book.begin(name);
@@ -119,7 +121,7 @@ impl<I: Index, D: LogDisk, O: Start> Store<I, D, O> {
         pass: &mut Pass<SharedBook<I, D, O>>,
         session: u8,
         ticket: &SplitTicket,
-        gate: &G,
+        points: &Points<'_, G>,
     ) -> Split
         requires lock { pass.old.lock ≡ self.now }
         requires off { pass.old.holds ≡ false }
@@ -127,11 +129,35 @@ impl<I: Index, D: LogDisk, O: Start> Store<I, D, O> {
         requires begun { HasBegun pass.old ticket.now.number ticket.now.name (arc_value ticket.now.bucket).base }
         ensures { BegunEnds I.WIDTH ticket.now.number pass.old pass.new result }
     {
-        let Ok(prepared) = prepare(alloc, ticket, I::WIDTH) else {
+        let Ok(prepared) = prepare_free::<I, _>(alloc, ticket, pass) else {
             return self.give_up(rt, pass, ticket.number);
         };
-        gate.reach(GatePoint::Ready, session);
+        points.reach(GatePoint::Ready, session, pass);
         self.finish(rt, pass, &prepared)
+    }
+
+    // Begins a split, prepares and installs it.
+    pub(super) fn split_at<R: Wait, G: Gate>(
+        &self,
+        rt: &R,
+        alloc: Global,
+        pass: &mut Pass<SharedBook<I, D, O>>,
+        session: u8,
+        name: &Name,
+        points: &Points<'_, G>,
+    ) -> Split
+        requires lock { pass.old.lock ≡ self.now }
+        requires off { pass.old.holds ≡ false }
+        ensures ends { SplitEnds I.WIDTH name.now pass.old pass.new result }
+        ensures pass { SamePass pass.old pass.new }
+    {
+        pass.will_read(false);
+        let ticket = match self.begin(rt, pass, name) {
+            Ok(ticket) => ticket,
+            Err(fault) => return Split::NotSplit(fault),
+        };
+        points.reach(GatePoint::Begun, session, pass);
+        self.carry_out(rt, alloc, pass, session, &ticket, points)
     }
 
     /// Splits a leaf: begins under the lock, prepares outside it, and installs under it. Where memory runs out between, the split is
@@ -150,12 +176,6 @@ impl<I: Index, D: LogDisk, O: Start> Store<I, D, O> {
         ensures ends { SplitEnds I.WIDTH name.now pass.old pass.new result }
         ensures pass { SamePass pass.old pass.new }
     {
-        pass.will_read(false);
-        let ticket = match self.begin(rt, pass, name) {
-            Ok(ticket) => ticket,
-            Err(fault) => return Split::NotSplit(fault),
-        };
-        gate.reach(GatePoint::Begun, session);
-        self.carry_out(rt, alloc, pass, session, &ticket, gate)
+        self.split_at(rt, alloc, pass, session, name, &Points::at(gate))
     }
 }

@@ -1,12 +1,13 @@
-use Rattle.std.proofs.Common.{ℕ, Bool, ◌+◌, subst}
+use Rattle.std.proofs.Common.{ℕ, Bool, ◌+◌, ◌∙◌, ap, subst}
+use Rattle.book_lock.specs.Pass.{Known}
 use Rattle.plain_list.specs.declared.entries.Entry.TheVariants.{Begin}
 use Rattle.plain_list.specs.declared.entries.Lost.TheVariants as lost
 use Rattle.commit_book.specs.Refusals.{IsMemoryOrDisk}
 use Rattle.kept_log.specs.Journal.{cells_in}
 use Rattle.book_lock.specs.Ends.{MayNote}
-use Rattle.sessions.specs.Steps.{MayGive}
+use Rattle.sessions.specs.Steps.{MayGive, has_entry}
 use Rattle.sessions.specs.Splits.{begin_cause, number_of, state_of}
-use Rattle.sessions.proofs.StepLemmas.{may-give, says-all, begin-may}
+use Rattle.sessions.proofs.StepLemmas.{given-free, may-give, says-all, begin-may}
 use Rattle.sessions.proofs.SplitLemmas.{begun-step, begun, begun-notes, begun-name, number-entry}
 use Rattle.sessions.proofs.store.Store.begin.Goals as goal
 
@@ -45,3 +46,6 @@ returns-clause-begun g c =
 
 pub returns-clause-name : goal.returns-clause-name
 returns-clause-name g c = begun-name g.I.Index.WIDTH c.take-book.result c.begin-answer.new.self c.args.name.now c.begin-answer.result c.begin-answer.ensures.ok
+
+pub returns-clause-free : goal.returns-clause-free
+returns-clause-free g c = ap (λ (k : Known). k.holds) c.give.ensures ∙ given-free c.take-book.new.pass (has_entry c.begin-answer.result) c.begin-answer.new.self.entries

@@ -12,13 +12,13 @@ note_rows-requires-clause-answers g c =
     answers-still (world_after old.pass.origin.world old.pass.seen) (world_after took.origin.world took.seen) c.args.i c.args.end (take c.args.base old.kept.items) old _
     (still-world g.D.LogDisk.drive c.take-book.result old.pass took (g.I.Index.leaves c.args.sight.now.index) c.args.sight.now.events c.take-book.ensures c.requires.sees still) refl refl c.requires.answers
 
-pub returns-in-Some : goal.returns-in-Some
-returns-in-Some g c = λ start stood.
+pub returns-in-Some-clause-ends : goal.returns-in-Some-clause-ends
+returns-in-Some-clause-ends g c = λ start stood.
     run-refused g.D.LogDisk.drive c.take-book.result g.I.Index.WIDTH c.args.i c.args.end c.args.base start c.args.lane.now c.take-book.new.pass stood c.take-book.ensures c.note_rows.new.lane c.note_rows.ensures.notes c.requires.queries.within c.requires.rows.0 _
     c.in-Some.field-0 c.in-Some.is refl refl refl c.put_back-2.ensures refl
 
-pub returns-in-None : goal.returns-in-None
-returns-in-None g c = λ start stood. (
+pub returns-in-None-clause-ends : goal.returns-in-None-clause-ends
+returns-in-None-clause-ends g c = λ start stood. (
   c.requires.rows.0,
   run-played g.D.LogDisk.drive c.take-book.result g.I.Index.WIDTH c.args.i c.args.end c.args.base start c.args.lane.now c.take-book.new.pass stood c.take-book.ensures c.note_rows.new.lane c.note_rows.ensures.notes c.requires.queries.within c.requires.rows.0 _
       c.requires.rows.2 c.in-None.is refl refl refl c.put_back-2.ensures refl refl (omega arith),

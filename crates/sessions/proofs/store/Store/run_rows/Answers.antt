@@ -1,4 +1,4 @@
-use Rattle.std.proofs.Common.{ℕ, sym, subst, arith}
+use Rattle.std.proofs.Common.{ℕ, ◌∙◌, ap, sym, subst, arith}
 use Rattle.book_lock.specs.Pass.{Known}
 use Rattle.sessions.specs.Runs.{Answers, HasLooked, Sees}
 use Rattle.sessions.proofs.RunLemmas.{none-answered, some-answered}
@@ -37,7 +37,7 @@ returns g c =
     let leaves = g.I.Index.leaves c.in-Ok.sight.index in
     let answers = c.answer_rows-answered.ensures.answers in
     let some = some-answered leaves c.in-Ok.sight.events c.args.i c.answer_rows-answered.result c.len-base.result c.see.new.pass (record old { pass = c.see.new.pass }) new c.in-Ok.ensures.sight answers (omega (arith, c.len-base.ensures, old.kept.ok.0)) in
-    c.keep_rows-run.ensures old (record {
+    c.keep_rows-run.ensures.ends old (record {
       session = answers.session;
       rows = answers.rows;
       fault = answers.fault;
@@ -46,3 +46,6 @@ returns g c =
       room = answers.room;
       pass = subst (λ (k : Known). HasLooked old.pass k) (sym answers.pass) (subst (λ (k : Known). HasLooked k c.see.new.pass) c.will_read.ensures c.in-Ok.ensures.looked);
     })
+
+pub answer_rows-answered-requires-clause-free : goal.answer_rows-answered-requires-clause-free
+answer_rows-answered-requires-clause-free g c = ap (λ (k : Known). k.holds) c.in-Ok.ensures.looked.pass_is ∙ (ap (λ (k : Known). k.holds) c.will_read.ensures ∙ c.requires.lock.1)

@@ -4,7 +4,7 @@ use Rattle.book_lock.specs.Pass.{Known}
 use Rattle.sessions.specs.Splits.{HasBegun, SamePass, SplitEnds}
 use Rattle.sessions.specs.declared.faults.Split.TheVariants.{NotSplit}
 use Rattle.sessions.proofs.SplitLemmas.{begun-ends, split-same}
-use Rattle.sessions.proofs.store.Store.split_once.Goals as goal
+use Rattle.sessions.proofs.store.Store.split_at.Goals as goal
 
 pub returns-in-Err-clause-ends : goal.returns-in-Err-clause-ends
 returns-in-Err-clause-ends g c = subst (λ (k : Known). SplitEnds g.I.Index.WIDTH c.args.name.now k c.begin.new.pass (NotSplit c.in-Err.fault)) c.will_read.ensures (inl c.in-Err.ensures.step)

@@ -1,0 +1,14 @@
+-- What a snapshot of the index stands for.
+use Rattle.std.specs.Prelude.{◌≡◌, ℕ, List}
+use Rattle.plain_list.specs.History.{world_after, call_count}
+use Rattle.plain_list.specs.World.{IsWorld}
+use Rattle.index_layer.specs.Leaves.{Leaf}
+use Rattle.index_layer.specs.Stands.{Stands}
+use Rattle.book_lock.specs.Pass.{Known}
+use Rattle.sessions.specs.Opens.{leaves_seen, places_seen}
+
+-- leaves that stand for the objects after all that a pass has seen, in the leaves of that time, and the place of the last call of that
+pub record IsView (w : ℕ) (leaves : List Leaf) (place : ℕ) (pass : Known) : Type 0 where
+  pub place_is : place ≡ call_count pass.seen
+  pub world : IsWorld (world_after pass.origin.world pass.seen)
+  pub stands : Stands leaves (places_seen pass) (leaves_seen w pass)
