@@ -1,0 +1,4 @@
+pub mod Orders
+pub mod Rows
+pub mod Fronts
+pub mod Begins
