@@ -3,6 +3,7 @@
 //! A function over the bound `Index` makes the calls, and runs for each form.
 mod asks;
 mod below;
+mod browses;
 mod buckets;
 mod builds;
 mod calls;

@@ -1,2 +1,3 @@
+pub mod Gatherings
 pub mod KeyOrder
 pub mod Numbers

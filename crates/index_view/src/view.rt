@@ -4,9 +4,13 @@ ghost use Rattle.zorder.specs.Region.{IsBox};
 ghost use Rattle.plain_list.specs.Queries.{members_in, ranked};
 ghost use Rattle.table_share.specs.Standing.{OfPlaces};
 ghost use Rattle.range_query.specs.Cut.{leaves_cut, leaves_met};
+ghost use Rattle.browse_query.specs.Coming.{AreNoMore};
 ghost use Rattle.index_view.specs.Visits.{VisitsEach};
 
+use crate::browsed::first_of;
+use crate::gathered::Gathered;
 use crate::visits::{Visit, visit_each};
+use browse_query::Browse;
 use index_layer::Index;
 use plain_list::PlacedList;
 use std::alloc::Global;
@@ -14,6 +18,9 @@ use std::marker::{Brand, Model};
 use std::sync::ledger::{Blank, Ledger};
 use step_count::Steps;
 use zorder::{Memory, Name, Point, Region};
+
+// The greatest number of objects that a search keeps. If more are wanted, a browse returns them.
+const MOST_KEPT: u32 = 2_048;
 
 /// The objects of an index as they were after some number of calls. A view never changes. It owns its index, so it may
 /// be kept for any time, sent to another thread, and shared by reference.
@@ -46,7 +53,8 @@ impl<I: Index> View<I> {
         self.place
     }
 
-    /// Returns the number of objects. A trie keeps this number, so it opens no bucket.
+    /// Returns the number of objects. It opens no bucket. A `KdTrie` stores this number; the other indexes add up the
+    /// counts of their leaves.
     pub fn len(&self) -> u64
         ensures { OfPlaces self.now.leaves (λ places. result ≡ length places) }
     {
@@ -89,29 +97,20 @@ impl<I: Index> View<I> {
         range_query::count_in(&self.index, region, steps)
     }
 
-    /// Returns all objects in the box, in the order of their ids. It takes memory only for what it finds. If memory
-    /// runs out, it returns `Err`, and the view answers the next query as before.
+    /// Returns all objects in the box, in the order of their ids, however many there are. It takes memory once, for
+    /// exactly these objects. If there is no memory, it returns `Err`, and the view answers the next query as before.
     pub fn within(&self, alloc: Global, region: &Region) -> Result<PlacedList, Memory>
         requires { IsBox region.now }
         ensures { OfPlaces self.now.leaves (λ places. IfOk result (λ list. list ≡ members_in region.now places)) }
     {
-        self.within_over::<Brand>(alloc, region, Blank::new(1))
-    }
-
-    fn within_over<L: Ledger>(
-        &self,
-        alloc: Global,
-        region: &Region,
-        blank: Blank,
-    ) -> Result<PlacedList, Memory>
-        requires name { blank.name ≡ L.name }
-        requires parts { blank.parts ≡ L.parts }
-        requires one_part { blank.parts ≡ 1 }
-        requires is_box { IsBox region.now }
-        ensures { OfPlaces self.now.leaves (λ places. IfOk result (λ list. list ≡ members_in region.now places)) }
-    {
-        let mut steps = Steps::<L>::new(blank);
-        range_query::range(alloc, &self.index, region, &mut steps)
+        let mut gathered = Gathered::with_capacity(alloc, self.count(region) as usize)?;
+        self.for_each_in(region, &mut gathered);
+        if gathered.is_short {
+            return Err(Memory);
+        }
+        let mut found = gathered.objects;
+        found.sort_unstable_by_key(|m| m.id);
+        Ok(PlacedList::from_vec(found))
     }
 
     /// Calls the visitor once for each object in the box and for no other, in key order: by the Morton key of the
@@ -149,15 +148,46 @@ impl<I: Index> View<I> {
     }
 
     /// Returns the `k` nearest objects, or all if there are fewer. The nearest comes first, and at the same distance
-    /// the lesser id. If memory runs out, it returns `Err`, and the view answers the next query as before.
+    /// the lesser id. `k` may be any number. If memory runs out, it returns `Err`, and the view answers the next query
+    /// as before.
     pub fn nearest(&self, alloc: Global, at: Point, k: u32) -> Result<PlacedList, Memory>
-        requires { k ≤ 2048 }
         ensures { OfPlaces self.now.leaves (λ places. IfOk result (λ list. list ≡ take k (ranked at places))) }
     {
         if k == 0 {
             return Ok(PlacedList::from_vec(Vec::new(alloc)));
         }
+        if k > MOST_KEPT {
+            return self.many_over::<Brand>(alloc, at, k, Blank::new(1));
+        }
         self.nearest_over::<Brand>(alloc, at, k, Blank::new(1))
+    }
+
+    /// Starts to return all objects one after the other, the nearest first. It opens no bucket and takes no memory.
+    /// The browse borrows the view. Several browses may borrow it at once.
+    pub fn browse(&self, alloc: Global, at: Point) -> Browse<'_, I>
+        ensures from { result.from ≡ at }
+        ensures objects { OfPlaces self.now.leaves (λ places. result.objects ≡ ranked at places) }
+        ensures leaves { AreNoMore result.leaves self.now.leaves }
+    {
+        Browse::new(alloc, &self.index, at)
+    }
+
+    // As `nearest`, by a browse, which has no greatest number of objects.
+    fn many_over<L: Ledger>(
+        &self,
+        alloc: Global,
+        at: Point,
+        k: u32,
+        blank: Blank,
+    ) -> Result<PlacedList, Memory>
+        requires name { blank.name ≡ L.name }
+        requires parts { blank.parts ≡ L.parts }
+        requires one_part { blank.parts ≡ 1 }
+        ensures { OfPlaces self.now.leaves (λ places. IfOk result (λ list. list ≡ take k (ranked at places))) }
+    {
+        let mut steps = Steps::<L>::new(blank);
+        let room = self.len().min(u64::from(k)) as usize;
+        first_of(alloc, self.browse(alloc, at), k, room, &mut steps)
     }
 
     fn nearest_over<L: Ledger>(

@@ -1,4 +1,5 @@
 //! Views of every form of index, compared with the plain list and with answers by hand.
+ghost use Rattle.std.specs.Prelude.{◌≡◌};
 ghost use Rattle.zorder.specs.Region.{IsBox};
 
 use crate::index::below::split_over;
@@ -13,7 +14,10 @@ use kd_trie::KdTrie;
 use plain_list::{Answer, Op, PlacedList, World, answer};
 use quad_trie::QuadTrie;
 use std::alloc::Global;
+use std::marker::Brand;
 use std::process::Abort;
+use std::sync::ledger::{Blank, Ledger};
+use step_count::Steps;
 use zorder::{Memory, Placed, Point, Region, key};
 
 const MIDDLE: u32 = 2_147_483_648;
@@ -152,14 +156,11 @@ fn agrees_in<I: Index>(
 }
 
 fn agrees_at<I: Index>(rt: &impl Abort, alloc: Global, view: &View<I>, world: &World, at: Point) {
-    for many in [1, 3, 7, 8, 9, 24, 25, 101_u32] {
-        let k = many.clamp(1, 2_048);
+    for k in [0, 1, 3, 7, 8, 9, 24, 25, 101, 2_048, 2_049, u32::MAX] {
         let wanted = near_in(rt, alloc, world, at, k);
         let found = view.nearest(alloc, at, k).expect(rt, "the nearest");
         assert_same!(rt; found.as_slice(), wanted.as_slice());
     }
-    let none = view.nearest(alloc, at, 0).expect(rt, "no objects");
-    assert_is!(rt; none.as_slice().is_empty());
 }
 
 fn agrees<I: Index>(rt: &impl Abort, alloc: Global, view: &View<I>, objects: &[Placed]) {
@@ -175,7 +176,7 @@ fn agrees<I: Index>(rt: &impl Abort, alloc: Global, view: &View<I>, objects: &[P
     agrees_at(rt, alloc, view, &world, BESIDE);
 }
 
-// Splits the leaf of each of these objects some times.
+// Splits the leaf of each of these objects once.
 fn split_all<I: Index>(alloc: Global, index: &mut I, objects: &[Placed]) -> Result<(), Undone> {
     for object in objects {
         split_over(alloc, index, key(object.at))?;
@@ -261,7 +262,7 @@ fn change_all<I: Index>(alloc: Global, index: &mut I) -> Result<(), Undone> {
     split_all(alloc, index, FOUR)
 }
 
-// The four objects after these changes: at (8,8), (1,3) and (2,1) in the low box's columns, by hand.
+// Of the objects that are then there, by hand. The one that moved is at (1,3), and the one that came at (2,1).
 const IN_LOW_LATER: &[Placed] = &[placed!(1, 8, 8)];
 
 fn keeps_its_answers<I: Index>(rt: &impl Abort, alloc: Global) {
@@ -283,6 +284,34 @@ fn a_view_keeps_its_answers_while_its_index_changes_and_splits(rt: HostRuntime) 
     keeps_its_answers::<QuadTrie>(&rt, rt.alloc());
 }
 
+// More objects than a search by distance keeps.
+const MANY: u32 = 2_100;
+
+// On 30 points, each on one of 70 others.
+fn many_objects(alloc: Global) -> Result<Vec<Placed>, Memory> {
+    let mut objects = Vec::new(alloc);
+    for place in 0..MANY {
+        let at = at!((place % 30) * 143_165_576, (place / 30) * 61_356_675);
+        let id = u64::from(place).wrapping_mul(1_009) % 2_111;
+        objects.push(Placed { id, at })?;
+    }
+    Ok(objects)
+}
+
+#[test]
+fn a_view_finds_more_of_the_nearest_than_a_search_keeps(rt: HostRuntime) {
+    let alloc = rt.alloc();
+    let objects = many_objects(alloc).expect(&rt, "objects");
+    let world = world_of(alloc, &objects).expect(&rt, "a world");
+    let index = leaves_over::<KdTrie>(alloc, &objects).expect(&rt, "an index");
+    let view = View::new(index, 0);
+    for k in [2_048, 2_049, 2_099, 2_100, 2_101] {
+        let wanted = near_in(&rt, alloc, &world, CENTRE, k);
+        let found = view.nearest(alloc, CENTRE, k).expect(&rt, "the nearest");
+        assert_same!(rt; found.as_slice(), wanted.as_slice());
+    }
+}
+
 // Each call is made again if memory runs out. Only one request fails, so the second call has its memory.
 fn four_again<I: Index>(rt: &impl Abort, alloc: Global) -> View<I> {
     let index = match leaves_over::<I>(alloc, FOUR) {
@@ -300,25 +329,71 @@ fn within_again<I: Index>(rt: &impl Abort, alloc: Global, view: &View<I>) {
     assert_same!(rt; found.as_slice(), IN_LOW);
 }
 
-fn nearest_again<I: Index>(rt: &impl Abort, alloc: Global, view: &View<I>) {
-    let nearest = match view.nearest(alloc, at!(0, 0), 2) {
+fn nearest_again<I: Index>(
+    rt: &impl Abort,
+    alloc: Global,
+    view: &View<I>,
+    k: u32,
+    wanted: &[Placed],
+) {
+    let nearest = match view.nearest(alloc, at!(0, 0), k) {
         Ok(nearest) => nearest,
-        Err(Memory) => view.nearest(alloc, at!(0, 0), 2).expect(rt, "two objects"),
+        Err(Memory) => view.nearest(alloc, at!(0, 0), k).expect(rt, "the nearest"),
     };
-    assert_same!(rt; nearest.as_slice(), NEAR_ORIGIN);
+    assert_same!(rt; nearest.as_slice(), wanted);
 }
 
-fn answers_again<I: Index>(rt: &impl Abort, alloc: Global) {
+// Of four objects, all by their distance from the origin, by hand.
+const RANKED: &[Placed] = &[
+    placed!(4, 3, 4),
+    placed!(2, 3, 5),
+    placed!(1, 8, 8),
+    placed!(3, MIDDLE, 0),
+];
+
+fn browses_again<I: Index, L: Ledger>(
+    rt: &impl Abort,
+    alloc: Global,
+    view: &View<I>,
+    steps: &mut Steps<L>,
+) {
+    let mut browse = view.browse(alloc, at!(0, 0));
+    for wanted in RANKED {
+        let next = match browse.next(steps) {
+            Ok(next) => next,
+            Err(Memory) => browse.next(steps).expect(rt, "an object"),
+        };
+        assert_same!(rt; next, Some(*wanted));
+    }
+    assert_is!(rt; matches!(browse.next(steps), Ok(None)));
+}
+
+fn answers_again<I: Index, L: Ledger>(rt: &impl Abort, alloc: Global, blank: Blank)
+    requires name { blank.name ≡ L.name }
+    requires parts { blank.parts ≡ L.parts }
+    requires one_part { blank.parts ≡ 1 }
+{
+    let mut steps = Steps::<L>::new(blank);
     let view = four_again::<I>(rt, alloc);
     within_again(rt, alloc, &view);
-    nearest_again(rt, alloc, &view);
+    nearest_again(rt, alloc, &view, 2, NEAR_ORIGIN);
+    nearest_again(rt, alloc, &view, 3_000, RANKED);
+    browses_again(rt, alloc, &view, &mut steps);
     assert_same!(rt; (view.count(&LOW), view.len(), view.place()), (3, 4, 9));
 }
 
-// Try it with one failing request of memory, each of the first 200: every run passes.
+// Each run passes if one request of memory fails, whichever it is.
 #[test]
-fn a_view_answers_again_after_memory_ran_out(rt: HostRuntime) {
-    answers_again::<FlatIndex>(&rt, rt.alloc());
-    answers_again::<KdTrie>(&rt, rt.alloc());
-    answers_again::<QuadTrie>(&rt, rt.alloc());
+fn a_view_of_a_flat_index_answers_again_after_memory_ran_out(rt: HostRuntime) {
+    answers_again::<FlatIndex, Brand>(&rt, rt.alloc(), Blank::new(1));
+}
+
+#[test]
+fn a_view_of_a_trie_answers_again_after_memory_ran_out(rt: HostRuntime) {
+    answers_again::<KdTrie, Brand>(&rt, rt.alloc(), Blank::new(1));
+}
+
+#[test]
+fn a_view_of_a_quad_trie_answers_again_after_memory_ran_out(rt: HostRuntime) {
+    answers_again::<QuadTrie, Brand>(&rt, rt.alloc(), Blank::new(1));
 }
