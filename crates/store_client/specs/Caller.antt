@@ -57,6 +57,14 @@ without_part old = record old { pass = record old.pass { parts = old.pass.parts 
 abbrev pub with_part_of : Caller → ℕ → Caller
 with_part_of old session = record { pass = record old.pass { own = []; parts = 1 }; session = session; row = 0; place = 0 }
 
+-- a client that has given so many of its parts away
+abbrev pub without_parts : ℕ → Caller → Caller
+without_parts n old = record old { pass = record old.pass { parts = old.pass.parts - n } }
+
+-- the one that got them: it has seen the same, and has asked nothing yet
+abbrev pub with_parts_of : ℕ → Caller → ℕ → Caller
+with_parts_of n old session = record { pass = record old.pass { own = []; parts = n }; session = session; row = 0; place = 0 }
+
 -- a client that has taken in another one's pass: it has seen what either has, and both's entries and parts are its own
 abbrev pub has_joined : Caller → Known → Caller
 has_joined old other = record old { pass = record old.pass { seen = longer old.pass.seen other.seen; own = merge other.own old.pass.own; parts = old.pass.parts + other.parts } }

@@ -3,6 +3,7 @@ use Rattle.std.specs.Prelude.{◌≡◌, ℕ, ◌+◌, ◌-◌, ◌%◌, ◌<◌
 use Rattle.std.specs.List.{All}
 use mathlib.Core.List.{IsPrefix}
 use Rattle.store_client.specs.Caller.{Caller, Keeps, has_joined, with_part_of}
+pub use Rattle.store_client.specs.Caller.{without_parts}
 use Rattle.store_client.specs.declared.crowd.Worker.{Worker}
 
 module _ {I D O W P : Type 0} where
@@ -33,10 +34,6 @@ IsHired boss hand = (hand.pass.lock ≡ boss.pass.lock) × (hand.pass.parts ≡ 
 -- the session of a hand behind so many others, where they count from this one: round at 256
 abbrev pub session_at : ℕ → ℕ → ℕ
 session_at first i = (first + i) % 256
-
--- a client that has given so many of its parts away
-abbrev pub without_parts : ℕ → Caller → Caller
-without_parts n old = record old { pass = record old.pass { parts = old.pass.parts - n } }
 
 -- a client that has taken in the passes of all of these, one after another
 abbrev pub has_joined_all : List Caller → Caller → Caller

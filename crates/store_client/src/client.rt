@@ -6,6 +6,7 @@ ghost use Rattle.sessions.specs.Lanes.{Tries};
 ghost use Rattle.sessions.specs.Renewals.{room_at};
 ghost use Rattle.sessions.specs.Runs.{HasLooked};
 ghost use Rattle.sessions.specs.Splits.{SamePass};
+ghost use Rattle.sessions.specs.Views.{IsView};
 ghost use Rattle.store_client.specs.Caller.{IsFree, Keeps, is_near_end, world_seen};
 ghost use Rattle.store_client.specs.Asked.{Asked, AskedCounted};
 
@@ -14,6 +15,7 @@ use book_lock::Pass;
 use commit_book::Room;
 use disk_trait::LogDisk;
 use index_layer::Index;
+use index_view::View;
 use io_edge::OpenGate;
 use plain_list::{Answer, Op, World};
 use sessions::{CallFault, SharedBook, Split, Start, Store};
@@ -157,6 +159,19 @@ impl<'s, I: Index, D: LogDisk, O: Start> Client<'s, I, D, O> {
     {
         let store = self.store;
         store.world(rt, &mut self.pass)
+    }
+
+    /// Returns a view: the objects after all that the client has seen. You may keep the view for as long as you like. Its queries take no
+    /// lock, and no later call changes it. The call adds no entry, and other callers wait only until two pointers are copied. `Err` comes
+    /// only if memory runs out.
+    pub fn view<R: Wait>(&mut self, rt: &R) -> Result<View<I>, Memory>
+        ensures looked { HasLooked self.old.pass self.new.pass }
+        ensures view { IfOk result (λ v. IsView I.WIDTH v.leaves v.place self.new.pass) }
+        ensures client { self.new ≡ record self.old { pass = self.new.pass } }
+    {
+        let store = self.store;
+        let snapshot = store.view(rt, &mut self.pass)?;
+        Ok(View::new(snapshot.index, snapshot.place))
     }
 
     /// As `ask`, and counts how many buckets are opened for the answer.

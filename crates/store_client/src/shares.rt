@@ -1,8 +1,8 @@
 //! Further clients of a store, and their end.
-ghost use Rattle.std.specs.Prelude.{◌≡◌, ◌≤◌};
+ghost use Rattle.std.specs.Prelude.{◌≡◌, ◌<◌, ◌≤◌};
 ghost use mathlib.Core.List.{IsPrefix};
 ghost use Rattle.book_lock.specs.Ends.{longer};
-ghost use Rattle.store_client.specs.Caller.{has_joined, without_part, with_part_of};
+ghost use Rattle.store_client.specs.Caller.{has_joined, without_part, without_parts, with_part_of, with_parts_of};
 
 use crate::client::Client;
 use disk_trait::LogDisk;
@@ -10,14 +10,16 @@ use index_layer::Index;
 use sessions::Start;
 
 impl<'s, I: Index, D: LogDisk, O: Start> Client<'s, I, D, O> {
-    /// A client for another caller, which has seen the same.
-    pub fn another(&mut self, session: u8) -> Client<'s, I, D, O>
-        requires parts { 2 ≤ self.old.pass.parts }
-        ensures old { self.new ≡ without_part self.old }
-        ensures new { result ≡ with_part_of self.old session }
+    /// A client for another caller, which has seen the same, with so many of this one's parts. The new client can give all of its parts but
+    /// one to others in the same way, and this one keeps at least one. No test at run time counts parts: the prover refuses a call for no
+    /// parts, and a call for as many as this client has or more.
+    pub fn another_with(&mut self, session: u8, parts: u64) -> Client<'s, I, D, O>
+        requires parts { (1 ≤ parts) × (parts < self.old.pass.parts) }
+        ensures old { self.new ≡ without_parts parts self.old }
+        ensures new { result ≡ with_parts_of parts self.old session }
     {
         let (store, alloc) = (self.store, self.alloc);
-        let pass = store.split_pass(&mut self.pass);
+        let pass = store.split_parts(&mut self.pass, parts);
         Client {
             store,
             pass,
@@ -26,6 +28,15 @@ impl<'s, I: Index, D: LogDisk, O: Start> Client<'s, I, D, O> {
             row: 0,
             place: 0,
         }
+    }
+
+    /// A client for another caller, which has seen the same, with one part: it can give none to others.
+    pub fn another(&mut self, session: u8) -> Client<'s, I, D, O>
+        requires parts { 2 ≤ self.old.pass.parts }
+        ensures old { self.new ≡ without_part self.old }
+        ensures new { result ≡ with_part_of self.old session }
+    {
+        self.another_with(session, 1)
     }
 
     /// Takes in another client, which asks no more.
