@@ -1,5 +1,5 @@
 -- What the opening of a log comes to.
-use Rattle.std.proofs.Common.{◌≡◌, ◌⊎◌, inl, inr, ⊎_elim, ◌∙◌, ℕ, ◌≤◌, false, List, length, Some, refl, sym, ap, subst, arith, None}
+use Rattle.std.proofs.Common.{◌≡◌, ◌⊎◌, inl, inr, ⊎_elim, ◌∙◌, ℕ, ◌≤◌, false, List, length, Some, is_some, refl, sym, ap, subst, arith, None}
 use Rattle.std.specs.Prelude.{slice_index}
 use Rattle.disk_trait.specs.Drive.{Drive, AttachedOne, KeepsLaws, Stays}
 use Rattle.disk_trait.proofs.Calls.{attached-still}
