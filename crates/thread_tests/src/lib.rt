@@ -1,6 +1,6 @@
 //! Tests of the lock by itself, and of sessions that run at once: passes by hand, lanes in an order that a gate makes, also such as a store
-//! runs by itself, and sixteen lanes together; the index that one of them watches; the verbs of a client, and its teams; the objects of a
-//! store; what a refused call is told as; a store that is renewed; and stores over files, also where they go on over a second one.
+//! runs by itself, and sixteen lanes together; the index that one of them watches; the verbs of a client, its teams and its views; the
+//! objects of a store; what a refused call is told as; a store that is renewed; and stores over files, also where they go on over a second one.
 #![tactic(auto)]
 
 // `assert!` and `assert_eq!` as calls: the proof of a function with several of them is much shorter so.
@@ -41,6 +41,8 @@ mod logs;
 #[cfg(test)]
 mod many_objects;
 #[cfg(test)]
+mod meetings;
+#[cfg(test)]
 mod numbered;
 #[cfg(test)]
 mod orders;
@@ -62,5 +64,7 @@ mod teams;
 mod turns;
 #[cfg(test)]
 mod versions;
+#[cfg(test)]
+mod views;
 #[cfg(test)]
 mod worlds;
