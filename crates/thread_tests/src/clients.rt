@@ -267,6 +267,30 @@ fn learns_what_another_put<I: Index, D: LogDisk, R: Wait + Abort>(rt: &R, alloc:
     assert_same!(rt; found, Some(Some(here!(3))));
 }
 
+// The second client gets four parts. It gives two to the third, which gives one to the fourth, and it gives one to the
+// fifth. The second finds what the third and the fourth put after it has taken them in, and the fifth does after it has
+// learned from the second.
+fn gives_parts_on<I: Index, D: LogDisk, R: Wait + Abort>(rt: &R, alloc: Global) {
+    let (store, pass) = new_store::<I, D>(rt, alloc);
+    let mut one = Client::new(&store, alloc, pass, 1);
+    let mut two = one.another_with(2, 4);
+    let mut three = two.another_with(3, 2);
+    let mut four = three.another(4);
+    let mut five = two.another(5);
+    let _ = three.put(rt, 3, HERE, 3);
+    let _ = four.put(rt, 4, THERE, 4);
+    three.join(four);
+    two.join(three);
+    five.learn(&mut two);
+    let found = [two.find(rt, 3).ok(), five.find(rt, 4).ok()];
+    two.join(five);
+    one.join(two);
+    let pass = one.into_pass();
+    let events = events_of(store.close(pass));
+    assert_same!(rt; found, [Some(Some(here!(3))), Some(Some(there!(4)))]);
+    assert_same!(rt; events, 4);
+}
+
 // How many objects are put in a row: one more than a list has room for.
 const MANY: u32 = 2_049;
 
@@ -385,4 +409,9 @@ fn a_client_tells_the_place_of_its_last_answer(rt: HostRuntime) {
 #[test]
 fn a_client_learns_what_another_one_put(rt: HostRuntime) {
     learns_what_another_put::<FlatIndex, MemDisk, HostRuntime>(&rt, rt.alloc());
+}
+
+#[test]
+fn a_client_with_several_parts_gives_them_on(rt: HostRuntime) {
+    gives_parts_on::<FlatIndex, MemDisk, HostRuntime>(&rt, rt.alloc());
 }

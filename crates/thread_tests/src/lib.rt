@@ -2,7 +2,7 @@
 //! - passes by hand;
 //! - lanes in an order that a gate makes, also lanes that a store runs by itself, and sixteen lanes together;
 //! - the index that one lane watches;
-//! - the verbs of a client, and its teams;
+//! - the verbs of a client, its teams and its views;
 //! - the objects of a store;
 //! - the texts of refused calls;
 //! - a store that is renewed, and stores over files, also when they continue over a second file.
@@ -46,6 +46,8 @@ mod logs;
 #[cfg(test)]
 mod many_objects;
 #[cfg(test)]
+mod meetings;
+#[cfg(test)]
 mod numbered;
 #[cfg(test)]
 mod orders;
@@ -67,5 +69,7 @@ mod teams;
 mod turns;
 #[cfg(test)]
 mod versions;
+#[cfg(test)]
+mod views;
 #[cfg(test)]
 mod worlds;

@@ -121,6 +121,21 @@ fn works_all<R: Threads + Wait + Sync + Abort>(
     assert_same!(rt; calls(entries.as_slice()), wanted.len());
 }
 
+// More than there are sessions, so that two have the same one.
+const CROWD: usize = 300;
+
+// The objects from 11 on, and their sessions from the first on.
+fn crowd() -> ([Putter; CROWD], [(u64, u8); CROWD]) {
+    let mut putters = [who_puts(0); CROWD];
+    let mut wanted = [(0, 0); CROWD];
+    for i in 0..CROWD {
+        let id = 11 + i as u64;
+        putters[i] = who_puts(id);
+        wanted[i] = (id, FIRST.wrapping_add((i % 256) as u8));
+    }
+    (putters, wanted)
+}
+
 const SIX: [(u64, u8); 6] = [(11, 254), (12, 255), (13, 0), (14, 1), (15, 2), (16, 3)];
 
 #[test]
@@ -149,4 +164,12 @@ fn a_team_of_one_has_the_first_session(rt: HostRuntime) {
 fn a_team_of_none_asks_nothing(rt: HostRuntime) {
     let alloc = rt.alloc();
     works_all(&rt, alloc, Vec::new(alloc), &[], 0);
+}
+
+#[test]
+fn a_team_of_300_puts_as_many_objects(rt: HostRuntime) {
+    let alloc = rt.alloc();
+    let (putters, wanted) = crowd();
+    let putters = Vec::from_array(alloc, putters).expect(&rt, "no memory");
+    works_all(&rt, alloc, putters, wanted.as_slice(), 45_150);
 }
