@@ -7,8 +7,8 @@ ghost use Rattle.browse_query.specs.Coming.{AreNoMore, IsNext, OpensOnce, OpensN
 use crate::front::{Front, next_of};
 use index_layer::Index;
 use std::alloc::Global;
-use std::marker::Model;
-use std::sync::ledger::Ledger;
+use std::marker::{Brand, Model};
+use std::sync::ledger::{Blank, Ledger};
 use step_count::Steps;
 use zorder::{Memory, Name, Placed, Point};
 
@@ -51,8 +51,31 @@ impl<'a, I: Index> Browse<'a, I> {
     /// Returns the next object: the nearest that is left, and of several at the same distance the one with the least
     /// id. After the last object, each call returns `None`.
     ///
-    /// Each bucket that it opens is one step. After `Err(Memory)` no object is lost: a later call returns the same one.
-    pub fn next<L: Ledger>(&mut self, steps: &mut Steps<L>) -> Result<Option<Placed>, Memory>
+    /// After `Err(Memory)` no object is lost: a later call returns the same one.
+    pub fn next(&mut self) -> Result<Option<Placed>, Memory>
+        ensures from { self.new.from ≡ self.old.from }
+        ensures next { IsNext result self.old.objects self.new.objects }
+    {
+        self.next_over::<Brand>(Blank::new(1))
+    }
+
+    // As `next`, with a count of steps that nobody reads.
+    fn next_over<L: Ledger>(&mut self, blank: Blank) -> Result<Option<Placed>, Memory>
+        requires name { blank.name ≡ L.name }
+        requires parts { blank.parts ≡ L.parts }
+        requires one_part { blank.parts ≡ 1 }
+        ensures from { self.new.from ≡ self.old.from }
+        ensures next { IsNext result self.old.objects self.new.objects }
+    {
+        let mut steps = Steps::<L>::new(blank);
+        self.next_counted(&mut steps)
+    }
+
+    /// As `next`. Each bucket that it opens is one step.
+    pub fn next_counted<L: Ledger>(
+        &mut self,
+        steps: &mut Steps<L>,
+    ) -> Result<Option<Placed>, Memory>
         ensures from { self.new.from ≡ self.old.from }
         ensures next { IsNext result self.old.objects self.new.objects }
         ensures opened { OpensOnce self.old.leaves self.new.leaves steps.old steps.new }

@@ -22,7 +22,7 @@ pub(crate) fn first_of<I: Index, L: Ledger>(
 {
     let mut found = Vec::with_capacity(alloc, room)?;
     while found.len() < most as usize {
-        let Some(object) = browse.next(steps)? else {
+        let Some(object) = browse.next_counted(steps)? else {
             return Ok(PlacedList::from_vec(found));
         };
         found.push(object)?;

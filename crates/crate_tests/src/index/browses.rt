@@ -110,9 +110,9 @@ fn next_of<I: Index, L: Ledger>(
     browse: &mut Browse<'_, I>,
     steps: &mut Steps<L>,
 ) -> Option<Placed> {
-    match browse.next(steps) {
+    match browse.next_counted(steps) {
         Ok(next) => next,
-        Err(_) => browse.next(steps).expect(rt, "memory"),
+        Err(_) => browse.next_counted(steps).expect(rt, "memory"),
     }
 }
 

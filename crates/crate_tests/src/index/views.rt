@@ -359,13 +359,13 @@ fn browses_again<I: Index, L: Ledger>(
 ) {
     let mut browse = view.browse(alloc, at!(0, 0));
     for wanted in RANKED {
-        let next = match browse.next(steps) {
+        let next = match browse.next_counted(steps) {
             Ok(next) => next,
-            Err(Memory) => browse.next(steps).expect(rt, "an object"),
+            Err(Memory) => browse.next_counted(steps).expect(rt, "an object"),
         };
         assert_same!(rt; next, Some(*wanted));
     }
-    assert_is!(rt; matches!(browse.next(steps), Ok(None)));
+    assert_is!(rt; matches!(browse.next_counted(steps), Ok(None)));
 }
 
 fn answers_again<I: Index, L: Ledger>(rt: &impl Abort, alloc: Global, blank: Blank)
