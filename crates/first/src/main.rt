@@ -1,21 +1,12 @@
 //! The smallest program that uses a store in memory: it puts two taxis and prints the nearest one.
 #![tactic(auto)]
 
-use commit_book::Book;
-use disk_mem::MemDisk;
-use kd_trie::KdTrie;
-use sessions::Store;
+use pisrakun::{Client, InMemory, KdTrie, Point, in_memory};
 use std::io::{self, Print};
-use std::marker::Brand;
-use store_client::Client;
-use zorder::Point;
 
 fn main(rt: HostRuntime) -> io::Result<()> {
     let alloc = rt.alloc();
-    let Ok(book) = Book::<KdTrie, MemDisk>::fresh(alloc, 64) else {
-        return println!(rt; "no memory");
-    };
-    let Ok((store, pass)) = Store::<KdTrie, MemDisk, Brand>::new(alloc, book) else {
+    let Ok(InMemory { store, pass }) = in_memory::<KdTrie>(alloc, 64) else {
         return println!(rt; "no memory");
     };
     let mut client = Client::new(&store, alloc, pass, 1);
