@@ -17,10 +17,8 @@ mod plan;
 mod rows;
 mod work;
 
-use commit_book::Book;
 use crowd::play;
-use disk_mem::MemDisk;
-use kd_trie::KdTrie;
+use pisrakun::{Client, InMemory, KdTrie, in_memory};
 use plan::Plan;
 use std::env::{self, Args};
 use std::io;
@@ -83,10 +81,14 @@ fn main(rt: HostRuntime) -> io::Result<()> {
     let mut words = env::args(&rt)?;
     words.next();
     let plan = plan_of(&mut words);
-    let Ok(book) = Book::<KdTrie, MemDisk>::fresh(rt.alloc(), BUCKET) else {
+    let Ok(InMemory { store, pass }) = in_memory::<KdTrie>(rt.alloc(), BUCKET) else {
         return println!(rt; "no memory");
     };
-    match play::<KdTrie, MemDisk, HostRuntime>(&rt, rt.alloc(), book, plan) {
+    let mut client = Client::new(&store, rt.alloc(), pass, 0);
+    let callers = play(&rt, rt.alloc(), &mut client, plan);
+    let pass = client.into_pass();
+    store.close(pass);
+    match callers {
         Some(callers) => tell(&rt, &plan, callers.as_slice()),
         None => println!(rt; "no memory"),
     }

@@ -1,8 +1,7 @@
 //! The calls of each session, and their right answers.
-ghost use Rattle.plain_list.specs.Answer.{IsValid};
+ghost use Rattle.pisrakun.specs.Answer.{IsValid};
 
-use plain_list::{Answer, Op};
-use zorder::Point;
+use pisrakun::{Answer, Op, Point};
 
 /// How many objects each session has.
 pub const OBJECTS: u32 = 64;

@@ -1,17 +1,14 @@
 //! The calls of one thread.
-ghost use Rattle.store_client.specs.Caller.{Keeps};
+ghost use Rattle.pisrakun.specs.Caller.{Keeps};
 
 use crate::plan::Plan;
 use crate::rows::{is_good, op_of};
-use disk_trait::LogDisk;
-use index_layer::Index;
-use sessions::Start;
+use pisrakun::{Client, Index, LogDisk, Start, Work};
 use std::alloc::Global;
 use std::rt::Clock;
 use std::sync::Wait;
 use std::thread;
 use std::time::{Duration, Instant};
-use store_client::{Client, Work};
 
 /// A session that calls. The first sessions are paced, the next are those of the batch, and the last are busy.
 #[derive(Drop)]

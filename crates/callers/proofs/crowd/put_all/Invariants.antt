@@ -1,4 +1,4 @@
-use Rattle.store_client.specs.Caller.{Keeps}
+use Rattle.pisrakun.specs.Caller.{Keeps}
 use Rattle.callers.proofs.crowd.put_all.Given as goal
 
 abbrev pub invariant-loop-object : goal.invariant-loop-object
