@@ -1,24 +1,18 @@
 //! Days of the company over a store, and what the next run finds.
 ghost use Rattle.std.specs.Prelude.{◌≡◌, ◌≤◌, IfOk, IfSome, vec_len};
-ghost use Rattle.store_client.specs.Caller.{Keeps};
-ghost use Rattle.store_file.specs.Opened.{IsFirst};
+ghost use Rattle.pisrakun.specs.Caller.{Keeps};
+ghost use Rattle.pisrakun.specs.Opened.{IsFirst};
 
 use crate::drivers::{Driver, Told, count_found};
 use crate::trouble::Trouble;
 use crate::yard::Day;
-use book_lock::Pass;
-use commit_book::{RenewFault, Room};
-use disk_trait::LogDisk;
-use io_edge::OpenGate;
-use kd_trie::KdTrie;
-use sessions::{NotRenewed, Renewed, SharedBook, Store};
+use pisrakun::{
+    Client, KdTrie, LogDisk, NotRenewed, NotRotated, OpenGate, OverFile, Pass, RenewFault, Renewed,
+    Room, RotateCause, Rotated, SharedBook, Store, close_store, renew_store, rotate_store,
+};
 use std::alloc::Global;
 use std::sync::Wait;
 use std::thread::Threads;
-use store_client::Client;
-use store_file::{
-    NotRotated, OverFile, RotateCause, Rotated, close_store, renew_store, rotate_store,
-};
 
 /// The company's store over a file, on any drive.
 pub type Vans<D> = Store<KdTrie, D, OverFile>;

@@ -1,16 +1,14 @@
 //! The drivers of a day. Each reports their vans with a client of their own, and watches which vans leave the yard and
 //! come back.
-ghost use Rattle.store_client.specs.Caller.{Keeps};
+ghost use Rattle.pisrakun.specs.Caller.{Keeps};
 
 use crate::yard::{Day, ROWS, VANS, van_of, yard};
-use disk_trait::LogDisk;
-use fence_watch::{Crossing, Event, Fence, FenceCount, Fences, Tally, WatchFault};
-use index_layer::Index;
-use sessions::Start;
+use pisrakun::{
+    Change, Client, Crossing, Event, Fence, FenceCount, Fences, Index, Listed, LogDisk, Placed,
+    Start, Tally, WatchFault, Work,
+};
 use std::alloc::Global;
 use std::sync::Wait;
-use store_client::{Change, Client, Listed, Work};
-use zorder::Placed;
 
 /// A driver, and the fence of their yard. Only their own vans cross it.
 #[derive(Drop)]

@@ -11,7 +11,7 @@
 #![tactic(auto)]
 
 ghost use Rattle.std.specs.Prelude.{IfOk};
-ghost use Rattle.store_file.specs.Opened.{IsFirst};
+ghost use Rattle.pisrakun.specs.Opened.{IsFirst};
 
 mod day;
 mod drivers;
@@ -19,9 +19,7 @@ mod trouble;
 mod yard;
 
 use day::{DayEnd, look_after, play_days};
-use disk_file::FileDisk;
-use disk_trait::LogDisk;
-use kd_trie::KdTrie;
+use pisrakun::{FileDisk, KdTrie, LogDisk, OpenedEither, Which, open_either};
 use std::alloc::Global;
 use std::fs::Files;
 use std::io;
@@ -29,7 +27,6 @@ use std::io::Print;
 use std::process::ExitCode;
 use std::sync::Wait;
 use std::thread::Threads;
-use store_file::{OpenedEither, Which, open_either};
 use trouble::Trouble;
 use yard::Day;
 

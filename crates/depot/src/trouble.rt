@@ -1,6 +1,6 @@
 //! What may end a run early.
+use pisrakun::EitherCause;
 use std::io;
-use store_file::EitherCause;
 use thiserror::Error;
 
 /// Why a run ended early. Each change that a driver's call has confirmed is in the log.

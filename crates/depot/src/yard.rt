@@ -1,10 +1,7 @@
 //! Where each van is and when, and the answer that its driver should get.
-ghost use Rattle.zorder.specs.Region.{IsBox};
+ghost use Rattle.pisrakun.specs.Region.{IsBox};
 
-use fence_watch::Fence;
-use plain_list::Stamped;
-use store_client::Report;
-use zorder::{Point, Region};
+use pisrakun::{Fence, Point, Region, Report, Stamped};
 
 /// How many reports a driver makes in a day: one for each van, round by round.
 pub const ROWS: u32 = 27;
