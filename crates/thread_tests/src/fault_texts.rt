@@ -1,5 +1,6 @@
-//! The texts of a refused call, a refused renewal or rotation, and an opening of two files that is refused.
+//! The texts of a refused call, a refused renewal or rotation, and a refused opening in memory or of two files.
 use commit_book::RenewFault;
+use pisrakun::NotInMemory;
 use recovery::OpenFault;
 use sessions::CallFault;
 use std::alloc::Global;
@@ -33,6 +34,11 @@ const NOT_RENEWED: &[(RenewFault, &str)] = &[
         },
         "4611686018427387905 splits were begun, too many for a further history",
     ),
+];
+
+const NOT_IN_MEMORY: &[(NotInMemory, &str)] = &[
+    (NotInMemory::Bucket, "a bucket has from 4 to 4,096 objects"),
+    (NotInMemory::Memory, "out of memory"),
 ];
 
 const NOT_OPENED: &[(EitherCause, &str)] = &[
@@ -109,5 +115,12 @@ fn two_files_that_are_not_opened_tell_their_cause(rt: HostRuntime) {
 fn a_refused_rotation_tells_its_cause(rt: HostRuntime) {
     for (fault, text) in NOT_ROTATED {
         expect_text(&rt, rt.alloc(), fault, text);
+    }
+}
+
+#[test]
+fn a_store_that_is_not_in_memory_tells_its_cause(rt: HostRuntime) {
+    for (cause, text) in NOT_IN_MEMORY {
+        expect_text(&rt, rt.alloc(), cause, text);
     }
 }

@@ -48,6 +48,8 @@ mod many_objects;
 #[cfg(test)]
 mod meetings;
 #[cfg(test)]
+mod memory_stores;
+#[cfg(test)]
 mod numbered;
 #[cfg(test)]
 mod orders;
