@@ -1,7 +1,8 @@
 //! The sessions of a day. Each makes its calls with a client of its own.
 ghost use Rattle.store_client.specs.Caller.{Keeps};
 
-use crate::town::{is_good, op_of};
+use crate::map::nearest_free;
+use crate::town::{DISPATCHER, STATION, WAITING, is_good, op_of};
 use disk_trait::LogDisk;
 use index_layer::Index;
 use plain_list::Answer;
@@ -9,7 +10,7 @@ use sessions::Start;
 use std::sync::Wait;
 use store_client::{Client, Work};
 
-// How many calls a session makes.
+// How many calls a driver makes, and how often the dispatcher looks for a taxi.
 const ROWS: u32 = 101;
 
 /// How many of a session's answers were right, and how many of these were stale.
@@ -34,7 +35,7 @@ impl Caller {
         }
     }
 
-    // Counts the answer to a row.
+    // Counts the answer to a driver's row.
     fn count(&mut self, row: u32, answer: &Answer) {
         if is_good(self.session, row, answer) {
             let is_stale = matches!(answer, Answer::Stale(_));
@@ -42,17 +43,50 @@ impl Caller {
             self.told.stale = self.told.stale.saturating_add(u32::from(is_stale));
         }
     }
-}
 
-impl<R: Wait> Work<R> for Caller {
-    fn work<I: Index, D: LogDisk, O: Start>(&mut self, rt: &R, client: &mut Client<'_, I, D, O>)
-        ensures client { Keeps client.old client.new }
+    // Makes the calls of a driver.
+    fn drive<I: Index, D: LogDisk, O: Start, R: Wait>(
+        &mut self,
+        rt: &R,
+        client: &mut Client<'_, I, D, O>,
+    )
+        ensures { Keeps client.old client.new }
     {
         for row in 0..ROWS {
             match client.ask(rt, &op_of(self.session, row)) {
                 Ok(reply) => self.count(row, &reply.answer),
                 Err(_) => return,
             }
+        }
+    }
+
+    // Looks for a free taxi again and again, each time in a new view.
+    fn dispatch<I: Index, D: LogDisk, O: Start, R: Wait + AllocGlobal>(
+        &mut self,
+        rt: &R,
+        client: &mut Client<'_, I, D, O>,
+    )
+        ensures { Keeps client.old client.new }
+    {
+        for _ in 0..ROWS {
+            let Ok(view) = client.view(rt) else {
+                return;
+            };
+            if nearest_free(rt.alloc(), &view, STATION) == Ok(Some(WAITING)) {
+                self.told.good = self.told.good.saturating_add(1);
+            }
+        }
+    }
+}
+
+impl<R: Wait + AllocGlobal> Work<R> for Caller {
+    fn work<I: Index, D: LogDisk, O: Start>(&mut self, rt: &R, client: &mut Client<'_, I, D, O>)
+        ensures client { Keeps client.old client.new }
+    {
+        if self.session == DISPATCHER {
+            self.dispatch(rt, client);
+        } else {
+            self.drive(rt, client);
         }
     }
 }

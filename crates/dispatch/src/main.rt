@@ -1,32 +1,38 @@
 //! A taxi company on the store, without CSV. Three drivers put and move their taxis, while a dispatcher looks for the
-//! taxi nearest to the station. Each has a thread. At the end each driver sends an old position late, and gets the
-//! answer that it is stale. That call changes nothing.
+//! free taxi nearest to the station. Each has a thread. The dispatcher looks in views, so it makes no calls and waits
+//! for nobody. At the end each driver sends an old position late, and gets the answer that it is stale. That call
+//! changes nothing. Then the dispatcher draws a map.
 //!
 //! The program prints the same lines however the threads run. Each driver moves taxis of its own in a quarter of its
-//! own. So the answers, the number of calls and splits, and the nearest taxis at the end don't depend on the order of
-//! the threads.
+//! own. So the answers, the number of calls and splits, and the map at the end don't depend on the order of the
+//! threads.
 #![tactic(auto)]
+
+ghost use Rattle.std.specs.Prelude.{◌<◌};
 
 mod callers;
 mod day;
+mod map;
 mod town;
 
 use callers::Caller;
 use commit_book::Book;
-use day::{Day, play_day};
+use day::{Day, Evening, play_day};
 use disk_mem::MemDisk;
+use index_view::View;
 use kd_trie::KdTrie;
+use map::{TILES, tile};
 use std::io;
 use std::io::Print;
-use zorder::Placed;
 
 // The bucket size in taxis.
 const BUCKET: u32 = 4;
 
-fn tell(rt: &impl Print, day: &Day) -> io::Result<()> {
+fn tell(rt: &impl Print, day: &Day<KdTrie>) -> io::Result<()> {
     tell_told(rt, day.callers.as_slice())?;
     println!(rt; "calls {}, splits {}", day.calls(), day.splits())?;
-    tell_nearest(rt, day.nearest.as_slice())
+    tell_map(rt, &day.evening.view)?;
+    tell_station(rt, &day.evening)
 }
 
 fn tell_told(rt: &impl Print, callers: &[Caller]) -> io::Result<()> {
@@ -41,21 +47,43 @@ fn tell_told(rt: &impl Print, callers: &[Caller]) -> io::Result<()> {
     Ok(())
 }
 
-fn tell_nearest(rt: &impl Print, taxis: &[Placed]) -> io::Result<()> {
-    for taxi in taxis {
-        println!(rt;
-            "near the station: taxi {} at {}:{}",
-            taxi.id, taxi.at.x, taxi.at.y
-        )?;
+// Prints how many taxis are in each tile of the map, from the north.
+fn tell_map(rt: &impl Print, view: &View<KdTrie>) -> io::Result<()> {
+    println!(rt; "taxis {}", view.len())?;
+    for row in (0..TILES).rev() {
+        tell_row(rt, view, row)?;
     }
     Ok(())
+}
+
+fn tell_row(rt: &impl Print, view: &View<KdTrie>, row: u32) -> io::Result<()>
+    requires { row < 4 }
+{
+    print!(rt; "map")?;
+    for column in 0..TILES {
+        print!(rt; " {}", view.count(&tile(column, row)))?;
+    }
+    println!(rt; "")
+}
+
+fn tell_station(rt: &impl Print, evening: &Evening<KdTrie>) -> io::Result<()> {
+    for taxi in evening.around.as_slice() {
+        println!(rt; "near the station: taxi {}", taxi.id)?;
+    }
+    match evening.free {
+        Some(taxi) => println!(rt;
+            "nearest free: taxi {} at {}:{}",
+            taxi.id, taxi.at.x, taxi.at.y
+        ),
+        None => println!(rt; "no taxi is free"),
+    }
 }
 
 fn main(rt: HostRuntime) -> io::Result<()> {
     let Ok(book) = Book::<KdTrie, MemDisk>::fresh(rt.alloc(), BUCKET) else {
         return println!(rt; "no memory");
     };
-    match play_day(&rt, rt.alloc(), book) {
+    match play_day(&rt, book) {
         Some(day) => tell(&rt, &day),
         None => println!(rt; "no memory"),
     }

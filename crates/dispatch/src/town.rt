@@ -1,20 +1,32 @@
-//! The calls of each session, and their right answers.
+//! The taxis, the calls of each driver, and their right answers.
 ghost use Rattle.plain_list.specs.Answer.{IsValid};
 
 use plain_list::{Answer, Op, Stamped};
-use zorder::Point;
+use zorder::{Placed, Point};
 
 /// The dispatcher's session. The sessions with lesser numbers are drivers.
 pub const DISPATCHER: u8 = 4;
 
-/// Where the dispatcher looks for taxis.
+/// Where the dispatcher wants a taxi.
 pub const STATION: Point = Point {
     x: 2_200_000_000,
     y: 2_200_000_000,
 };
 
-/// The id of the taxi that waits at the station.
-pub const WAITING: u64 = 40;
+/// The free taxi that waits in the next street.
+pub const WAITING: Placed = Placed {
+    id: 41,
+    at: Point {
+        x: 2_200_000_000,
+        y: 2_200_000_100,
+    },
+};
+
+/// The taxi at the station. It has a passenger.
+pub const TAKEN: Placed = Placed {
+    id: 40,
+    at: STATION,
+};
 
 // The coordinates at which the drivers' quarters begin.
 const LOW: u32 = 1_000_000_000;
@@ -51,14 +63,16 @@ fn place(session: u8, taxi: u32, round: u32) -> Stamped {
     }
 }
 
-/// The operation of a session's row. A driver puts each taxi, then moves each in turn, and at last sends an old
-/// position of the first one again. The dispatcher asks for the taxi nearest to the station.
+/// Whether a taxi is free. The store doesn't know, since its objects have only ids, points and moments.
+pub fn is_free(id: u64) -> bool {
+    id != TAKEN.id
+}
+
+/// The operation of a driver's row. A driver puts each taxi, then moves each in turn, and at last sends an old position
+/// of the first one again.
 pub fn op_of(session: u8, row: u32) -> Op
     ensures { IsValid result }
 {
-    if session == DISPATCHER {
-        return Op::Near { at: STATION, k: 1 };
-    }
     let (taxi, round) = (row % TAXIS, row / TAXIS);
     let id = u64::from(session) * 10 + u64::from(taxi);
     let sent = if round == LATE { TUNNEL } else { round };
@@ -80,7 +94,6 @@ pub fn is_good(session: u8, row: u32, answer: &Answer) -> bool {
             0 < round && round < LATE && *from == place(session, taxi, round - 1)
         }
         Answer::Stale(kept) => round == LATE && *kept == place(session, taxi, LATE - 1),
-        Answer::Found(taxis) => taxis.as_slice().iter().all(|taxi| taxi.id == WAITING),
         _ => false,
     }
 }

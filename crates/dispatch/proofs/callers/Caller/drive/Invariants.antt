@@ -1,5 +1,5 @@
 use Rattle.store_client.specs.Caller.{Keeps}
-use Rattle.dispatch.proofs.callers.CallerWork.work.Given as goal
+use Rattle.dispatch.proofs.callers.Caller.drive.Given as goal
 
 abbrev pub invariant-loop-row : goal.invariant-loop-row
 invariant-loop-row g l = Keeps l.initial.client l.client
