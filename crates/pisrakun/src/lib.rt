@@ -10,7 +10,7 @@
 //! | watch fences | `Fences`, `Tally`, `Change` |
 //!
 //! A store is over an `Index`: `KdTrie` splits a leaf into two and `QuadTrie` into four. A drive is a `FileDisk`, or any
-//! other `LogDisk`; a store in memory has none, and its drive is `NoDrive`, which has no value. The guide is
+//! other `LogDisk`; a store in memory has none, and its drive is `NoDrive`, which no call returns. The guide is
 //! docs/LIBRARY.md.
 //!
 //! Each name comes from the crate that its contract names. Not here: logs by themselves (`recovery`, `log_compact`), a
