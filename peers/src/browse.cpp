@@ -63,7 +63,7 @@ int main(int argc, char **argv) {
     measure("visit", points, 10, points, [&](u64) { return visit(tree); });
     for (u64 k : {8, 64, 2048}) {
         measure("nearest", k, steps(k), 1, [&](u64 n) { return nearest(tree, point(~n), k); });
-        measure("browse", k, steps(k), 1, [&](u64 n) { return browse(tree, point(~n), k); });
+        measure("browse", k, std::max<u64>(steps(k) / 100, 5), 1, [&](u64 n) { return browse(tree, point(~n), k); });
     }
     return 0;
 }
