@@ -36,6 +36,22 @@ const NOT_RENEWED: &[(RenewFault, &str)] = &[
     ),
 ];
 
+const NOT_OVER_A_FILE: &[(OpenCause, &str)] = &[
+    (
+        OpenCause::Bucket,
+        "the size of a bucket isn't from 4 to 4,096",
+    ),
+    (OpenCause::Attach, "the file can't be opened or made"),
+    (OpenCause::Disk, "the drive failed"),
+    (
+        OpenCause::Log {
+            fault: OpenFault::NotLog,
+        },
+        "the file is no log",
+    ),
+    (OpenCause::Memory, "out of memory"),
+];
+
 const NOT_IN_MEMORY: &[(NotInMemory, &str)] = &[
     (NotInMemory::Bucket, "a bucket has from 4 to 4,096 objects"),
     (NotInMemory::Memory, "out of memory"),
@@ -115,6 +131,13 @@ fn two_files_that_are_not_opened_tell_their_cause(rt: HostRuntime) {
 fn a_refused_rotation_tells_its_cause(rt: HostRuntime) {
     for (fault, text) in NOT_ROTATED {
         expect_text(&rt, rt.alloc(), fault, text);
+    }
+}
+
+#[test]
+fn a_store_that_is_not_over_a_file_tells_its_cause(rt: HostRuntime) {
+    for (cause, text) in NOT_OVER_A_FILE {
+        expect_text(&rt, rt.alloc(), cause, text);
     }
 }
 
