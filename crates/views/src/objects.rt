@@ -35,7 +35,7 @@ pub fn point_of(number: u64) -> Point {
     mixed = (mixed ^ (mixed >> 27)).wrapping_mul(0x94d0_49bb_1331_11eb);
     mixed ^= mixed >> 31;
     Point {
-        x: (mixed >> 32) as u32,
+        x: u32::try_from(mixed >> 32).unwrap_or(u32::MAX),
         y: (mixed & 0xffff_ffff) as u32,
     }
 }
