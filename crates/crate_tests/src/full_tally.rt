@@ -95,7 +95,7 @@ fn expect_end(rt: &impl Abort, tally: &Tally) {
     }
 }
 
-// Fills a tally along a log, takes its events, makes the step that it didn't make, and goes on to the end.
+// Fills a tally along a log, takes its events, makes the step that it didn't make, and those of the cells that are left.
 fn expect_whole<D: LogDisk>(rt: &impl Abort, alloc: Global, fences: &Fences, disk: D) {
     let mut tally = Tally::new(alloc, fences).expect(rt, "no memory");
     let Ok(mut walk) = Walk::start(alloc, disk, 1, CELLS) else {
@@ -109,7 +109,12 @@ fn expect_whole<D: LogDisk>(rt: &impl Abort, alloc: Global, fences: &Fences, dis
     assert_same!(rt; taken.len(), 4_194_304);
     assert_is!(rt; are_events(taken.as_slice(), 0));
     tally.step(&walked).expect(rt, "no step is made");
-    tally.along(&mut walk).expect(rt, "the log doesn't end");
+    for _left in 0..2 {
+        let next = walk.next().expect(rt, "the log is at fault");
+        let walked = next.expect(rt, "the log ends");
+        tally.step(&walked).expect(rt, "no step is made");
+    }
+    assert_is!(rt; matches!(walk.next(), Ok(None)));
     expect_end(rt, &tally);
 }
 
