@@ -7,11 +7,9 @@ use crate::last::look_at_all;
 use crate::plan::Plan;
 use crate::soaker::Soaker;
 use crate::trouble::Trouble;
-use crate::views::{Views, view_of};
 use book_lock::Pass;
 use disk_trait::LogDisk;
 use index_layer::Index;
-use index_view::View;
 use plain_list::Entry;
 use sessions::{NotRenewed, Renewed, SharedBook, Start, Store};
 use std::alloc::Global;
@@ -83,11 +81,9 @@ pub fn play<I: Index + Send, D: LogDisk + Send, R: Threads + Wait + Sync + Clock
 {
     let mut crew = crew_of(alloc, plan);
     let mut judge = Judge::new(alloc);
-    let mut views = Views::new(alloc);
     let mut done = Ok(false);
     for _ in 0..u64::MAX {
         let back = play_round(rt, alloc, &store, pass, &mut crew);
-        let (view, back) = view_of(rt, alloc, &store, back);
         let Renewed {
             store: next,
             pass: whole,
@@ -96,7 +92,6 @@ pub fn play<I: Index + Send, D: LogDisk + Send, R: Threads + Wait + Sync + Clock
         store = next;
         pass = whole;
         done = look(alloc, &mut judge, entries.as_slice(), &mut crew);
-        done = look_at_views(&mut views, view, &mut judge, done);
         if !matches!(done, Ok(false)) {
             break;
         }
@@ -122,11 +117,9 @@ pub fn play_over_files<
 {
     let mut crew = crew_of(alloc, plan);
     let mut judge = Judge::new(alloc);
-    let mut views = Views::new(alloc);
     let mut done = Ok(false);
     for turn in 0..u64::MAX {
         let back = play_round(rt, alloc, &store, pass, &mut crew);
-        let (view, back) = view_of(rt, alloc, &store, back);
         let Rotated {
             store: next,
             pass: whole,
@@ -137,7 +130,6 @@ pub fn play_over_files<
         pass = whole;
         spare = left;
         done = look(alloc, &mut judge, entries.as_slice(), &mut crew);
-        done = look_at_views(&mut views, view, &mut judge, done);
         if !matches!(done, Ok(false)) {
             break;
         }
@@ -176,18 +168,6 @@ fn look(
         soaker.replies = Vec::new(alloc);
     }
     Ok(crew.iter().all(|soaker| soaker.left == 0))
-}
-
-// Compares the views, if nothing is wrong so far.
-fn look_at_views<I: Index>(
-    views: &mut Views<I>,
-    view: Option<View<I>>,
-    judge: &mut Judge,
-    done: Result<bool, Trouble>,
-) -> Result<bool, Trouble> {
-    let is_done = done?;
-    views.look(view, judge)?;
-    Ok(is_done)
 }
 
 // Looks up all objects, if nothing is wrong so far, and closes the store.
