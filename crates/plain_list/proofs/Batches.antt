@@ -1,0 +1,212 @@
+-- The entries of a batch, and a history with them.
+use Rattle.std.proofs.Common.{◌≡◌, ◌≢◌, ℕ, suc, ◌+◌, ◌≤◌, Bool, true, false, List, [], ◌∷◌, ◌++◌, length, Some, None, refl, sym, ◌∙◌, ap, cond, arith, ◌||◌}
+use mathlib.Core.Bool.{true≢false}
+use Rattle.std.proofs.lemmas.List.{append-nil}
+use Rattle.std.specs.List.{list_any}
+use Rattle.plain_list.specs.declared.ops.Op.{Op}
+use Rattle.plain_list.specs.declared.ops.Answer.{Answer}
+use Rattle.plain_list.specs.declared.entries.Entry.{Entry}
+use Rattle.plain_list.specs.declared.entries.Entry.TheVariants.{Fail, Call, Begin, Install, Abandon}
+use Rattle.plain_list.specs.declared.entries.Lost.TheVariants as lost
+use Rattle.plain_list.specs.World.{World}
+use Rattle.plain_list.specs.Answer.{answer_of, after_of, changed, is_change}
+use Rattle.plain_list.specs.History.{world_after, replies, call_count, failed_cell}
+use Rattle.plain_list.specs.State.{State, step, state_after, are_fails, is_legal_history}
+use Rattle.plain_list.specs.Batch.{answers_to, after_all, batch_calls, batch_fails, AreFailsOf}
+use Rattle.plain_list.proofs.Histories.{has_failed, has_failed-none, fails-legal, legal-append, failed_cell-append, world_after-append, state_after-append, replies-append, call_count-append}
+
+-- an operation that changes nothing leaves the world as it is
+pub after_of-same : (world : World) (op : Op) → is_change (answer_of world op) ≡ false → after_of world op ≡ world
+after_of-same world op none = ap (λ b. cond b (changed world op) world) none
+
+pub answers_to-length : (world : World) (ops : List Op) → length (answers_to world ops) ≡ length ops
+answers_to-length world [] = refl
+answers_to-length world (op ∷ ops) = ap suc (answers_to-length (after_of world op) ops)
+
+-- a batch without a change leaves the world as it is
+pub after_all-same : (world : World) (ops : List Op) → list_any is_change (answers_to world ops) ≡ false → after_all world ops ≡ world
+after_all-same world [] none = refl
+after_all-same world (op ∷ ops) none =
+    let same : after_of world op ≡ world = after_of-same world op (neither (is_change (answer_of world op)) (list_any is_change (answers_to (after_of world op) ops)) none).0 in
+    after_all-same (after_of world op) ops (neither (is_change (answer_of world op)) (list_any is_change (answers_to (after_of world op) ops)) none).1 ∙ same
+  where
+    neither : (a b : Bool) → (a || b) ≡ false → (a ≡ false) × (b ≡ false)
+    neither true b e = absurd (true≢false e)
+    neither false b e = (refl, e)
+
+-- the calls of a batch have its answers, and lead to its world
+
+pub batch_calls-replies : (world : World) (session row : ℕ) (ops : List Op) → replies world (batch_calls session row ops) ≡ answers_to world ops
+batch_calls-replies world session row [] = refl
+batch_calls-replies world session row (op ∷ ops) = ap (λ (l : List Answer). answer_of world op ∷ l) (batch_calls-replies (after_of world op) session (row + 1) ops)
+
+pub batch_calls-world : (world : World) (session row : ℕ) (ops : List Op) → world_after world (batch_calls session row ops) ≡ after_all world ops
+batch_calls-world world session row [] = refl
+batch_calls-world world session row (op ∷ ops) = batch_calls-world (after_of world op) session (row + 1) ops
+
+pub batch_calls-state : (w : ℕ) (s : State) (session row : ℕ) (ops : List Op) → state_after w s (batch_calls session row ops) ≡ record s { world = after_all s.world ops }
+batch_calls-state w s session row [] = refl
+batch_calls-state w s session row (op ∷ ops) = batch_calls-state w (step w s (Call session row op)) session (row + 1) ops
+
+pub batch_calls-count : (session row : ℕ) (ops : List Op) → call_count (batch_calls session row ops) ≡ length ops
+batch_calls-count session row [] = refl
+batch_calls-count session row (op ∷ ops) = ap suc (batch_calls-count session (row + 1) ops)
+
+pub batch_calls-length : (session row : ℕ) (ops : List Op) → length (batch_calls session row ops) ≡ length ops
+batch_calls-length session row [] = refl
+batch_calls-length session row (op ∷ ops) = ap suc (batch_calls-length session (row + 1) ops)
+
+pub batch_calls-sound : (session row : ℕ) (ops : List Op) → failed_cell (batch_calls session row ops) ≡ None
+batch_calls-sound session row [] = refl
+batch_calls-sound session row (op ∷ ops) = batch_calls-sound session (row + 1) ops
+
+pub batch_calls-has_failed : (session row : ℕ) (ops : List Op) → has_failed (batch_calls session row ops) ≡ false
+batch_calls-has_failed session row ops = has_failed-none (batch_calls session row ops) (batch_calls-sound session row ops)
+
+pub batch_calls-legal : (w : ℕ) (s : State) (session row : ℕ) (ops : List Op) → is_legal_history w s (batch_calls session row ops) ≡ true
+batch_calls-legal w s session row [] = refl
+batch_calls-legal w s session row (op ∷ ops) = batch_calls-legal w (step w s (Call session row op)) session (row + 1) ops
+
+-- a legal history without a failed append goes on by the calls of a batch
+pub legal-batch_calls : (w : ℕ) (s : State) (h : List Entry) (session row : ℕ) (ops : List Op) → has_failed h ≡ false → is_legal_history w s h ≡ true
+    → is_legal_history w s (h ++ batch_calls session row ops) ≡ true
+legal-batch_calls w s h session row ops sound legal = legal-append w s h (batch_calls session row ops) sound legal (batch_calls-legal w (state_after w s h) session row ops)
+
+-- failed appends change nothing
+
+pub fails-of : (cell : ℕ) (fs : List Entry) → AreFailsOf cell fs → are_fails fs ≡ true
+fails-of cell [] all = refl
+fails-of cell (Fail number lost ∷ fs) all = fails-of cell fs all.1
+fails-of cell (Call session row op ∷ fs) all = absurd all.0
+fails-of cell (Begin number name ∷ fs) all = absurd all.0
+fails-of cell (Install number ∷ fs) all = absurd all.0
+fails-of cell (Abandon number ∷ fs) all = absurd all.0
+
+pub fails-state : (w : ℕ) (s : State) (fs : List Entry) → are_fails fs ≡ true → state_after w s fs ≡ s
+fails-state w s [] all = refl
+fails-state w s (Fail cell lost ∷ fs) all = fails-state w s fs all
+fails-state w s (Call session row op ∷ fs) all = absurd (true≢false (sym all))
+fails-state w s (Begin number name ∷ fs) all = absurd (true≢false (sym all))
+fails-state w s (Install number ∷ fs) all = absurd (true≢false (sym all))
+fails-state w s (Abandon number ∷ fs) all = absurd (true≢false (sym all))
+
+pub fails-world : (world : World) (fs : List Entry) → are_fails fs ≡ true → world_after world fs ≡ world
+fails-world world [] all = refl
+fails-world world (Fail cell lost ∷ fs) all = fails-world world fs all
+fails-world world (Call session row op ∷ fs) all = absurd (true≢false (sym all))
+fails-world world (Begin number name ∷ fs) all = absurd (true≢false (sym all))
+fails-world world (Install number ∷ fs) all = absurd (true≢false (sym all))
+fails-world world (Abandon number ∷ fs) all = absurd (true≢false (sym all))
+
+pub fails-replies : (world : World) (fs : List Entry) → are_fails fs ≡ true → replies world fs ≡ []
+fails-replies world [] all = refl
+fails-replies world (Fail cell lost ∷ fs) all = fails-replies world fs all
+fails-replies world (Call session row op ∷ fs) all = absurd (true≢false (sym all))
+fails-replies world (Begin number name ∷ fs) all = absurd (true≢false (sym all))
+fails-replies world (Install number ∷ fs) all = absurd (true≢false (sym all))
+fails-replies world (Abandon number ∷ fs) all = absurd (true≢false (sym all))
+
+pub fails-count : (fs : List Entry) → are_fails fs ≡ true → call_count fs ≡ 0
+fails-count [] all = refl
+fails-count (Fail cell lost ∷ fs) all = fails-count fs all
+fails-count (Call session row op ∷ fs) all = absurd (true≢false (sym all))
+fails-count (Begin number name ∷ fs) all = absurd (true≢false (sym all))
+fails-count (Install number ∷ fs) all = absurd (true≢false (sym all))
+fails-count (Abandon number ∷ fs) all = absurd (true≢false (sym all))
+
+-- the first of some failed appends has the number of them all
+pub fails-cell : (cell : ℕ) (fs : List Entry) → AreFailsOf cell fs → fs ≢ [] → failed_cell fs ≡ Some cell
+fails-cell cell [] all some = absurd (some refl)
+fails-cell cell (Fail number lost ∷ fs) all some = ap Some all.0
+fails-cell cell (Call session row op ∷ fs) all some = absurd all.0
+fails-cell cell (Begin number name ∷ fs) all some = absurd all.0
+fails-cell cell (Install number ∷ fs) all some = absurd all.0
+fails-cell cell (Abandon number ∷ fs) all some = absurd all.0
+
+-- a legal history without a failed append goes on by failed appends
+pub legal-fails : (w : ℕ) (s : State) (h fs : List Entry) → has_failed h ≡ false → is_legal_history w s h ≡ true → are_fails fs ≡ true → is_legal_history w s (h ++ fs) ≡ true
+legal-fails w s h fs sound legal all = legal-append w s h fs sound legal (fails-legal w (state_after w s h) fs all)
+
+-- the lost changes of a batch are failed appends with its number
+pub batch_fails-of : (cell : ℕ) (world : World) (session row : ℕ) (ops : List Op) → AreFailsOf cell (batch_fails cell world session row ops)
+batch_fails-of cell world session row [] = tt
+batch_fails-of cell world session row (op ∷ ops) = by_test (is_change (answer_of world op)) (batch_fails-of cell (after_of world op) session (row + 1) ops)
+  where
+    by_test : (b : Bool) → AreFailsOf cell (batch_fails cell (after_of world op) session (row + 1) ops)
+        → AreFailsOf cell (cond b (Fail cell (lost.Call session row op) ∷ []) [] ++ batch_fails cell (after_of world op) session (row + 1) ops)
+    by_test true rest = (refl, rest)
+    by_test false rest = rest
+
+pub batch_fails-are : (cell : ℕ) (world : World) (session row : ℕ) (ops : List Op) → are_fails (batch_fails cell world session row ops) ≡ true
+batch_fails-are cell world session row ops = fails-of cell (batch_fails cell world session row ops) (batch_fails-of cell world session row ops)
+
+pub batch_fails-length : (cell : ℕ) (world : World) (session row : ℕ) (ops : List Op) → length (batch_fails cell world session row ops) ≤ length ops
+batch_fails-length cell world session row [] = omega arith
+batch_fails-length cell world session row (op ∷ ops) = by_test (is_change (answer_of world op)) (batch_fails-length cell (after_of world op) session (row + 1) ops)
+  where
+    by_test : (b : Bool) → length (batch_fails cell (after_of world op) session (row + 1) ops) ≤ length ops
+        → length (cond b (Fail cell (lost.Call session row op) ∷ []) [] ++ batch_fails cell (after_of world op) session (row + 1) ops) ≤ suc (length ops)
+    by_test true le = omega (arith, le)
+    by_test false le = omega (arith, le)
+
+-- a batch with a change has lost one
+pub batch_fails-some : (cell : ℕ) (world : World) (session row : ℕ) (ops : List Op) → list_any is_change (answers_to world ops) ≡ true → failed_cell (batch_fails cell world session row ops) ≡ Some cell
+batch_fails-some cell world session row [] some = absurd (true≢false (sym some))
+batch_fails-some cell world session row (op ∷ ops) some = by_test (is_change (answer_of world op)) some (batch_fails-some cell (after_of world op) session (row + 1) ops)
+  where
+    by_test : (b : Bool) → (b || list_any is_change (answers_to (after_of world op) ops)) ≡ true
+        → (list_any is_change (answers_to (after_of world op) ops) ≡ true → failed_cell (batch_fails cell (after_of world op) session (row + 1) ops) ≡ Some cell)
+        → failed_cell (cond b (Fail cell (lost.Call session row op) ∷ []) [] ++ batch_fails cell (after_of world op) session (row + 1) ops) ≡ Some cell
+    by_test true some rest = refl
+    by_test false some rest = rest some
+
+pub batch_fails-none : (cell : ℕ) (world : World) (session row : ℕ) (ops : List Op) → list_any is_change (answers_to world ops) ≡ false → batch_fails cell world session row ops ≡ []
+batch_fails-none cell world session row [] none = refl
+batch_fails-none cell world session row (op ∷ ops) none = by_test (is_change (answer_of world op)) none (batch_fails-none cell (after_of world op) session (row + 1) ops)
+  where
+    by_test : (b : Bool) → (b || list_any is_change (answers_to (after_of world op) ops)) ≡ false
+        → (list_any is_change (answers_to (after_of world op) ops) ≡ false → batch_fails cell (after_of world op) session (row + 1) ops ≡ [])
+        → cond b (Fail cell (lost.Call session row op) ∷ []) [] ++ batch_fails cell (after_of world op) session (row + 1) ops ≡ []
+    by_test true none rest = absurd (true≢false none)
+    by_test false none rest = rest none
+
+-- a legal history without a failed append goes on by the lost changes of a batch
+pub legal-batch_fails : (w : ℕ) (s : State) (h : List Entry) (cell : ℕ) (world : World) (session row : ℕ) (ops : List Op) → has_failed h ≡ false → is_legal_history w s h ≡ true
+    → is_legal_history w s (h ++ batch_fails cell world session row ops) ≡ true
+legal-batch_fails w s h cell world session row ops sound legal = legal-fails w s h (batch_fails cell world session row ops) sound legal (batch_fails-are cell world session row ops)
+
+-- then the history names the record of the batch
+pub failed_cell-batch_fails : (h : List Entry) (cell : ℕ) (world : World) (session row : ℕ) (ops : List Op) → has_failed h ≡ false → list_any is_change (answers_to world ops) ≡ true
+    → failed_cell (h ++ batch_fails cell world session row ops) ≡ Some cell
+failed_cell-batch_fails h cell world session row ops sound some = failed_cell-append h (batch_fails cell world session row ops) sound ∙ batch_fails-some cell world session row ops some
+
+-- after a history with failed appends at its end, the world, the state, the replies and the calls are the same as without them
+
+pub world_after-fails : (world : World) (h fs : List Entry) → are_fails fs ≡ true → world_after world (h ++ fs) ≡ world_after world h
+world_after-fails world h fs all = world_after-append world h fs ∙ fails-world (world_after world h) fs all
+
+pub state_after-fails : (w : ℕ) (s : State) (h fs : List Entry) → are_fails fs ≡ true → state_after w s (h ++ fs) ≡ state_after w s h
+state_after-fails w s h fs all = state_after-append w s h fs ∙ fails-state w (state_after w s h) fs all
+
+pub replies-fails : (world : World) (h fs : List Entry) → are_fails fs ≡ true → replies world (h ++ fs) ≡ replies world h
+replies-fails world h fs all = replies-append world h fs ∙ ap (λ l. replies world h ++ l) (fails-replies (world_after world h) fs all) ∙ append-nil (replies world h)
+
+pub call_count-fails : (h fs : List Entry) → are_fails fs ≡ true → call_count (h ++ fs) ≡ call_count h
+call_count-fails h fs all = omega (arith, call_count-append h fs, fails-count fs all)
+
+-- after a history with the calls of a batch at its end
+
+pub world_after-batch_calls : (world : World) (h : List Entry) (session row : ℕ) (ops : List Op) → world_after world (h ++ batch_calls session row ops) ≡ after_all (world_after world h) ops
+world_after-batch_calls world h session row ops = world_after-append world h (batch_calls session row ops) ∙ batch_calls-world (world_after world h) session row ops
+
+pub replies-batch_calls : (world : World) (h : List Entry) (session row : ℕ) (ops : List Op)
+    → replies world (h ++ batch_calls session row ops) ≡ replies world h ++ answers_to (world_after world h) ops
+replies-batch_calls world h session row ops =
+    replies-append world h (batch_calls session row ops) ∙ ap (λ l. replies world h ++ l) (batch_calls-replies (world_after world h) session row ops)
+
+pub call_count-batch_calls : (h : List Entry) (session row : ℕ) (ops : List Op) → call_count (h ++ batch_calls session row ops) ≡ call_count h + length ops
+call_count-batch_calls h session row ops = omega (arith, call_count-append h (batch_calls session row ops), batch_calls-count session row ops)
+
+pub has_failed-batch_calls : (h : List Entry) (session row : ℕ) (ops : List Op) → has_failed h ≡ false → has_failed (h ++ batch_calls session row ops) ≡ false
+has_failed-batch_calls h session row ops sound =
+    has_failed-none (h ++ batch_calls session row ops) (failed_cell-append h (batch_calls session row ops) sound ∙ batch_calls-sound session row ops)
