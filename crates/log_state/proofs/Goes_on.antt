@@ -18,6 +18,7 @@ use Rattle.plain_list.specs.declared.entries.Entry.TheVariants as entry
 use Rattle.plain_list.specs.World.{World}
 use Rattle.plain_list.specs.Answer.{answer_of, after_of, is_change, changed}
 use Rattle.plain_list.specs.State.{State, OpenSplit, step, state_after, is_possible, is_free, is_legal_history, split_name, without_name, without_number, may_split, installed, is_leaf}
+use Rattle.plain_list.proofs.Histories.{legal-rest}
 use Rattle.log_state.specs.Recovers.{entry_of, is_possible_cell, cells_after, is_legal_cells}
 use Rattle.log_state.specs.Changes.{cells_of, change_cells}
 
@@ -189,5 +190,4 @@ goes_on w b s c (entry.Abandon number ∷ h) f legal =
     let now = ended w b s c number f may in
     let later = goes_on w b (step w s (entry.Abandon number)) (step w c (entry.Abandon number)) h now.2 (second_so (is_possible w s (entry.Abandon number) && is_free s (entry.Abandon number)) (is_legal_history w (step w s (entry.Abandon number)) h) legal) in
     (both_true now.0 later.0, later.1)
-goes_on w b s c (entry.Fail number lost ∷ []) f legal = (refl, f)
-goes_on w b s c (entry.Fail number lost ∷ e ∷ h) f legal = absurd (true≢false (sym (second_so (is_possible w s (entry.Fail number lost) && is_free s (entry.Fail number lost)) false legal)))
+goes_on w b s c (entry.Fail number lost ∷ h) f legal = goes_on w b s c h f (legal-rest w s (entry.Fail number lost) h legal)

@@ -37,21 +37,22 @@ lost_cells (lost.Begin number name) = cell.Begin number name ∷ []
 lost_cells (lost.Install number) = cell.Install number ∷ []
 lost_cells (lost.Abandon number) = cell.Abandon number ∷ []
 
--- The cells of the failed append with which a history ends, if it does.
+-- The cells of the failed appends with which a history ends.
 abbrev pub failed_cells : List Entry → List Cell
 failed_cells [] = []
-failed_cells (entry.Fail number lost ∷ h) = lost_cells lost
+failed_cells (entry.Fail number lost ∷ h) = lost_cells lost ++ failed_cells h
 failed_cells (entry.Call session row op ∷ h) = failed_cells h
 failed_cells (entry.Begin number name ∷ h) = failed_cells h
 failed_cells (entry.Install number ∷ h) = failed_cells h
 failed_cells (entry.Abandon number ∷ h) = failed_cells h
 
--- The image recovers to the first cells and then a prefix of the history's cells. The cell of a failed append may
+-- The image recovers to the first cells and then a prefix of the history's cells. The cells of failed appends may
 -- follow the last of them.
 abbrev pub IsPrefixRecovered : ℕ → List Cell → World → List Entry → List ℕ → Type 0
 IsPrefixRecovered w first world h image = (m : ℕ) × Recovers w (first ++ take m (cells_of world h ++ failed_cells h)) image
 
--- The image recovers to the first cells and then all cells of the history. The cell of a failed append may follow them.
+-- The image recovers to the first cells and then all cells of the history. The cells of all failed appends may follow
+-- them.
 abbrev pub IsWhollyRecovered : ℕ → List Cell → World → List Entry → List ℕ → Type 0
 IsWhollyRecovered w first world h image =
     Recovers w (first ++ cells_of world h) image ⊎ Recovers w (first ++ (cells_of world h ++ failed_cells h)) image
