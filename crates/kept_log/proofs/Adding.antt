@@ -10,7 +10,7 @@ use Rattle.plain_list.specs.declared.entries.Entry.TheVariants.{Fail, Call, Begi
 use Rattle.plain_list.specs.declared.entries.Lost.{Lost}
 use Rattle.plain_list.specs.World.{World}
 use Rattle.plain_list.specs.History.{world_after}
-use Rattle.plain_list.specs.State.{State, empty_state, step, is_possible, is_free, is_fail, is_empty, is_legal_history, IsLegal}
+use Rattle.plain_list.specs.State.{State, empty_state, step, is_possible, is_free, is_fail, are_fails, is_legal_history, IsLegal}
 use Rattle.plain_list.proofs.Histories.{has_failed}
 use Rattle.disk_trait.specs.Drive.{Drive}
 use Rattle.disk_trait.specs.Moments.{LeavesOnly, LeavesNow, LeavesSince}
@@ -30,21 +30,25 @@ use Rattle.kept_log.specs.Steps.{IsNext}
 use Rattle.kept_log.proofs.Starting.{leaves-log}
 use Rattle.kept_log.proofs.StepCells.{cells-fail}
 
-not_last : (h : List Entry) (e : Entry) → is_empty (h ++ e ∷ []) ≡ false
-not_last [] e = refl
-not_last (f ∷ h) e = refl
+and_false : (b c : Bool) → c ≡ false → (b && c) ≡ false
+and_false true c is = is
+and_false false c is = refl
+
+going_last : (h : List Entry) (e : Entry) → is_fail e ≡ false → are_fails (h ++ e ∷ []) ≡ false
+going_last [] e going = ap (λ b. b && true) going
+going_last (f ∷ h) e going = and_false (is_fail f) (are_fails (h ++ e ∷ [])) (going_last h e going)
 
 sound_test : (b last rest sound : Bool) → last ≡ false → cond b last rest ≡ true → (rest ≡ true → sound ≡ false) → cond b true sound ≡ false
 sound_test true last rest sound more legal later = absurd (true≢false (sym legal ∙ more))
 sound_test false last rest sound more legal later = later legal
 
--- If one more entry is legal, no append has failed.
-pub sound-push : (w : ℕ) (s : State) (h : List Entry) (e : Entry) → IsLegal w s (h ++ e ∷ []) → has_failed h ≡ false
-sound-push w s [] e legal = refl
-sound-push w s (f ∷ h) e legal =
-    sound_test (is_fail f) (is_empty (h ++ e ∷ [])) (is_legal_history w (step w s f) (h ++ e ∷ [])) (has_failed h) (not_last h e)
-    (second_so (is_possible w s f && is_free s f) (cond (is_fail f) (is_empty (h ++ e ∷ [])) (is_legal_history w (step w s f) (h ++ e ∷ []))) legal)
-    (sound-push w (step w s f) h e)
+-- If one more entry is legal that is no failed append, no append has failed.
+pub sound-push : (w : ℕ) (s : State) (h : List Entry) (e : Entry) → IsLegal w s (h ++ e ∷ []) → is_fail e ≡ false → has_failed h ≡ false
+sound-push w s [] e legal going = refl
+sound-push w s (f ∷ h) e legal going =
+    sound_test (is_fail f) (are_fails (h ++ e ∷ [])) (is_legal_history w (step w s f) (h ++ e ∷ [])) (has_failed h) (going_last h e going)
+    (second_so (is_possible w s f && is_free s f) (cond (is_fail f) (are_fails (h ++ e ∷ [])) (is_legal_history w (step w s f) (h ++ e ∷ []))) legal)
+    (λ rest. sound-push w (step w s f) h e rest going)
 
 -- An entry with a cell is no failed append.
 lost_none : (world : World) (e : Entry) (cell : Cell) → cells_of world (e ∷ []) ≡ cell ∷ [] → failed_cells (e ∷ []) ≡ []
@@ -53,6 +57,17 @@ lost_none world (Call session row op) cell one = refl
 lost_none world (Begin number name) cell one = refl
 lost_none world (Install number) cell one = refl
 lost_none world (Abandon number) cell one = refl
+
+going_cell : (world : World) (e : Entry) (cell : Cell) → cells_of world (e ∷ []) ≡ cell ∷ [] → is_fail e ≡ false
+going_cell world (Fail number lost) cell one = absurd (cc one)
+going_cell world (Call session row op) cell one = refl
+going_cell world (Begin number name) cell one = refl
+going_cell world (Install number) cell one = refl
+going_cell world (Abandon number) cell one = refl
+
+-- If an entry with a cell may come next, no append has failed.
+pub sound-next : (w : ℕ) (s : State) (h : List Entry) (e : Entry) (cell : Cell) → IsNext w s h e cell → has_failed h ≡ false
+sound-next w s h e cell next = sound-push w s h e next.legal (going_cell (world_after s.world h) e cell next.cells)
 
 -- A log's bytes name the newest version, and so does what an append leaves.
 newest-either : (w : ℕ) (cells : List Cell) (cell : Cell) (c : List ℕ) → HoldsEither w cells cell c → IsNewest c
@@ -65,7 +80,7 @@ newest-later w cells cell t d0 d1 le any_moment so_far c left = ⊎_elim (so_far
 
 module _ (w : ℕ) (s : State) (h : List Entry) (e : Entry) (cell : Cell) (next : IsNext w s h e cell) where
   sound : has_failed h ≡ false
-  sound = sound-push w s h e next.legal
+  sound = sound-next w s h e cell next
 
   none_lost : failed_cells h ≡ []
   none_lost = failed_cells-none h sound
@@ -115,7 +130,7 @@ module _ (w : ℕ) (s : State) (h : List Entry) (e : Entry) (cell : Cell) (next 
             opening = kept.opening;
             later = omega (arith, kept.later, any_moment.later);
             history = kept_failed w first s.world h (cell ∷ []) start.clock d0 d1 kept.later none_lost legal_with kept.history any_moment (h ++ Fail number lost ∷ [])
-                (λ i. same i ++ (failed_cells-append h (Fail number lost ∷ []) sound ∙ one) i)
+                (λ i. same i ++ (failed_cells-append h (Fail number lost ∷ []) sound ∙ ap (λ l. l ++ []) one) i)
                 same number now;
             newest = λ here. newest-later w (first ++ cells_of s.world h) cell start.clock d0 d1 kept.later any_moment (kept.newest here);
           }
@@ -125,7 +140,7 @@ pub kept-quiet : {D : Type 0} (drive : D → Drive) (w : ℕ) (s : State) (h : L
     → cells_of (world_after s.world h) (e ∷ []) ≡ []
     → is_fail e ≡ false → Keeps drive w s h log → Keeps drive w s (h ++ e ∷ []) log
 kept-quiet drive w s h e log legal none going kept =
-    let sound : has_failed h ≡ false = sound-push w s h e legal in
+    let sound : has_failed h ≡ false = sound-push w s h e legal going in
     let cells : cells_of s.world (h ++ e ∷ []) ≡ cells_of s.world h =
     cells_of-append s.world h (e ∷ []) ∙ ap (λ l. cells_of s.world h ++ l) none ∙ append-nil (cells_of s.world h) in
     let lost : failed_cells (h ++ e ∷ []) ≡ failed_cells h = failed_cells-append h (e ∷ []) sound ∙ lost_going e going ∙ sym (failed_cells-none h sound) in

@@ -1,10 +1,10 @@
 -- What an append of many cells does to each history that a log keeps.
-use Rattle.std.proofs.Common.{◌≡◌, ◌⊎◌, inl, inr, ⊎_elim, ℕ, ◌≤◌, true, false, List, [], ◌++◌, length, None, refl, sym, ◌∙◌, ap, subst, arith, append_assoc, length-append}
+use Rattle.std.proofs.Common.{◌≡◌, ◌⊎◌, inl, inr, ⊎_elim, ℕ, ◌≤◌, true, false, List, [], ◌++◌, length, Option, Some, None, refl, sym, ◌∙◌, ap, subst, arith, append_assoc, length-append}
 use Rattle.std.proofs.lemmas.List.{append-nil}
 use Rattle.cell_format.specs.declared.cell.Cell.{Cell}
 use Rattle.cell_format.specs.Spelling.{newest}
 use Rattle.plain_list.specs.declared.entries.Entry.{Entry}
-use Rattle.plain_list.specs.State.{State, empty_state, is_legal_history}
+use Rattle.plain_list.specs.State.{State, empty_state, are_fails, is_legal_history}
 use Rattle.plain_list.proofs.Histories.{has_failed, has_failed-none}
 use Rattle.disk_trait.specs.Drive.{Drive}
 use Rattle.disk_trait.specs.Moments.{LeavesOnly, LeavesNow, LeavesSince}
@@ -13,10 +13,11 @@ use Rattle.split_log.specs.Append.{AddsAll}
 use Rattle.log_state.specs.Recovers.{Recovers, IsLegalCells, is_legal_cells}
 use Rattle.log_state.specs.Changes.{cells_of, failed_cells}
 use Rattle.log_state.specs.Keeps.{RecoversAllOrNone}
-use Rattle.log_state.proofs.Keeping.{either_since, kept_added, recovers}
+use Rattle.log_state.proofs.Keeping.{either_since, kept_added, kept_failed, recovers}
 use Rattle.log_state.proofs.LegalCells.{legal-front}
 use Rattle.log_state.proofs.LegalBehind.{legal_behind}
 use Rattle.log_state.proofs.PlacedChanges.{cells_of-append, failed_cells-append, failed_cells-none}
+use Rattle.log_state.proofs.BatchCells.{cells_of-with_fails}
 use Rattle.recovery.specs.Found.{IsNewest}
 use Rattle.recovery.proofs.HeadLemmas.{index_version}
 use Rattle.kept_log.specs.KeptView.{KeptView}
@@ -74,6 +75,20 @@ module _ (w : ℕ) (s : State) (h es : List Entry) (more : List Cell) (sound : h
             None log;
         newest = λ here. newest-then w (first ++ cells_of s.world h) more start.clock d0 d1 kept.later any_moment (kept.newest here);
       }
+
+      -- The cells were not added, and the failed appends at the history's end have lost them.
+      pub since-lost : (number : ℕ) (lost : List Entry) → are_fails lost ≡ true → failed_cells lost ≡ more → LeavesNow d1 (HoldsAllOrNone w (first ++ cells_of s.world h) more)
+          → KeepsSince w first s (h ++ lost) start d1 (Some number)
+      since-lost number lost all cells now =
+          let same : cells_of s.world (h ++ lost) ≡ cells_of s.world h = cells_of-with_fails s.world h lost all in
+          record {
+            opening = kept.opening;
+            later = omega (arith, kept.later, any_moment.later);
+            history = kept_failed w first s.world h more start.clock d0 d1 kept.later none_lost legal_with kept.history any_moment (h ++ lost)
+                (λ i. same i ++ (failed_cells-append h lost sound ∙ cells) i)
+                same number now;
+            newest = λ here. newest-then w (first ++ cells_of s.world h) more start.clock d0 d1 kept.later any_moment (kept.newest here);
+          }
 
 module _ {D : Type 0} (drive : D → Drive) (more : List Cell) (old new : KeptView D) (whole : old.failed ≡ None) (opened : IsSince old new)
     (any_moment : (w : ℕ) (cells : List Cell) → IsLog w cells (drive old.disk) → LeavesOnly (drive old.disk) (drive new.disk) (HoldsAllOrNone w cells more)) where
@@ -133,3 +148,21 @@ module _ {D : Type 0} (drive : D → Drive) (more : List Cell) (old new : KeptVi
           subst (λ (l : List Cell). IsLog w l (drive new.disk)) (same first)
           (adds.log w (first ++ cells_of s.world h) (kept.text first bytes (sym (ap (λ (d : D). (drive d).bytes) opened.start) ∙ told) recovers whole));
     }
+
+    -- The history that ends with failed appends which have lost these cells is kept.
+    pub keeps-lost : (number : ℕ) → new.failed ≡ Some number → new.cells ≡ old.cells → ((cells : List Cell) → IsLog w cells (drive old.disk) → LeavesNow (drive new.disk) (HoldsAllOrNone w cells more))
+        → (lost : List Entry) → are_fails lost ≡ true → failed_cells lost ≡ more → Keeps drive w s (h ++ lost) new
+    keeps-lost number closed count now lost all cells = record {
+      count = omega (arith, count, kept.count, opened.first, ap length (cells_of-with_fails s.world h lost all));
+      since = λ first starts.
+          subst (λ f. KeepsSince w first s (h ++ lost) (drive new.start) (drive new.disk) f) (sym closed)
+          (subst (λ (d : D). KeepsSince w first s (h ++ lost) (drive d) (drive new.disk) (Some number)) (sym opened.start)
+          (let before : StartsWith w first (drive old.start) = subst (λ (d : D). StartsWith w first (drive d)) opened.start starts in
+          since-lost w s h es more unfailed next first (drive old.start) (drive old.disk) (drive new.disk) before.recovers.legal
+          (still w s h kept first before) (during w s h kept first before)
+          number lost all cells (now (first ++ cells_of s.world h) (log_of w s h kept first before))));
+      text = λ first bytes told recovers none. absurd (closed_not none closed);
+    }
+      where
+        closed_not : {failed : Option ℕ} {n : ℕ} → failed ≡ None → failed ≡ Some n → ⊥
+        closed_not none some = cc (none, some)

@@ -29,7 +29,7 @@ use Rattle.kept_log.specs.Steps.{IsSince}
 use Rattle.kept_log.specs.Journal.{KeepsIn, Added, Missed, LeavesEither, LeavesNext}
 use Rattle.kept_log.proofs.StepCells.{call-no_cells}
 use Rattle.kept_log.proofs.Starting.{kept-opened}
-use Rattle.kept_log.proofs.Adding.{sound-push, kept-quiet}
+use Rattle.kept_log.proofs.Adding.{sound-push, sound-next, kept-quiet}
 use Rattle.kept_log.proofs.Appending.{leaves-either, leaves-alone, keeps-next, closed-at, keeps-failed}
 
 -- If no cell is named, none was lost.
@@ -49,25 +49,29 @@ with_cell world (Install number) cell one = refl
 with_cell world (Abandon number) cell one = refl
 
 -- If no cell is named, no fault count need rise.
-unnamed : {A : Type 0} (cell : Option ℕ) → cell ≡ None → is_some cell ≡ true → A
+pub unnamed : {A : Type 0} (cell : Option ℕ) → cell ≡ None → is_some cell ≡ true → A
 unnamed None none told = absurd (true≢false (sym told))
 unnamed (Some number) none told = absurd (cc none)
 
 -- If no cell is named, no number is.
-no_number : {A : Type 0} (cell : Option ℕ) (n : ℕ) → cell ≡ None → cell ≡ Some n → A
+pub no_number : {A : Type 0} (cell : Option ℕ) (n : ℕ) → cell ≡ None → cell ≡ Some n → A
 no_number cell n none some = absurd (cc (none, some))
 
+-- Two names of one cell are one number.
+pub same_number : (n number : ℕ) → Some n ≡ Some number → n ≡ number
+same_number n number same = cc same
+
 -- A count that rose since later has risen.
-rose_since : (a b c : ℕ) → a ≤ b → Rose b c → Rose a c
+pub rose_since : (a b c : ℕ) → a ≤ b → Rose b c → Rose a c
 rose_since a b c before rose = omega (arith, before, rose)
 
 -- An entry without a cell changes nothing that the journal keeps.
 pub in-quiet : {D : Type 0} (drive : D → Drive) (w : ℕ) (s : State) (h : List Entry) (e : Entry) (log : Option (KeptView D)) → IsLegal w s (h ++ e ∷ [])
     → cells_of (world_after s.world h) (e ∷ []) ≡ []
     → is_fail e ≡ false → KeepsIn drive w s h log → KeepsIn drive w s (h ++ e ∷ []) log
-in-quiet drive w s h e None legal none going kept = failed_cell-push h e (sound-push w s h e legal) ∙ going_cell e going
+in-quiet drive w s h e None legal none going kept = failed_cell-push h e (sound-push w s h e legal going) ∙ going_cell e going
 in-quiet drive w s h e (Some log) legal none going kept =
-    let sound : has_failed h ≡ false = sound-push w s h e legal in
+    let sound : has_failed h ≡ false = sound-push w s h e legal going in
     let unfailed : failed_cell (h ++ e ∷ []) ≡ None = failed_cell-push h e sound ∙ going_cell e going in
     record {
       keeps = kept-quiet drive w s h e log legal none going kept.keeps;
@@ -143,7 +147,7 @@ module _ {D : Type 0} (drive : D → Drive) (cell : Cell) (old new : KeptView D)
     count = omega (arith, adds.count);
     calls = adds.calls;
     keeps = λ w s h e next kept.
-        let sound : has_failed h ≡ false = sound-push w s h e next.legal in
+        let sound : has_failed h ≡ false = sound-next w s h e cell next in
         let unfailed : failed_cell (h ++ e ∷ []) ≡ None = failed_cell-push h e sound ∙ with_cell (world_after s.world h) e cell next.cells in
         record {
           keeps = keeps-next drive cell old new sound_log opened any_moment adds w s h e next kept.keeps;
@@ -175,11 +179,11 @@ module _ {D : Type 0} (drive : D → Drive) (cell : Cell) (old new : KeptView D)
           leaves-alone drive cell old new sound_log opened any_moment w s h e first next kept.keeps starts (λ cells log. (fails.broken.leaves w cells log).unstaged early);
     };
     keeps = λ w s h e lost next one kept.
-        let last : failed_cell (h ++ Fail number lost ∷ []) ≡ Some number = failed_cell-last h number lost (sound-push w s h e next.legal) in
+        let last : failed_cell (h ++ Fail number lost ∷ []) ≡ Some number = failed_cell-last h number lost (sound-next w s h e cell next) in
         record {
           keeps = keeps-failed drive cell old new sound_log opened any_moment number fails w s h e lost next one kept.keeps;
           failed = closed-at drive cell old new sound_log opened any_moment number fails ∙ sym last;
-          named = λ n is. last_named n number (sym is ∙ last) ∙ fails.named ∙ sym fails.count;
+          named = λ n is. same_number n number (sym is ∙ last) ∙ fails.named ∙ sym fails.count;
           most = omega (arith, room, fails.count);
           later = still_later kept.later;
           rose = λ told. rose_since (drive new.start).faults (drive old.disk).faults (drive new.disk).faults
@@ -187,16 +191,13 @@ module _ {D : Type 0} (drive : D → Drive) (cell : Cell) (old new : KeptView D)
           calm = λ none. no_number (failed_cell (h ++ Fail number lost ∷ [])) number none last;
           well = λ none. no_number (failed_cell (h ++ Fail number lost ∷ [])) number none last;
           stopped = λ told. subst (λ (d : D). EndsAtFault (drive d) (drive new.disk)) (sym opened.start)
-              (ends-then (drive old.start) (drive old.disk) (drive new.disk) (kept.well (failed_cell-none h (sound-push w s h e next.legal)))
+              (ends-then (drive old.start) (drive old.disk) (drive new.disk) (kept.well (failed_cell-none h (sound-next w s h e cell next)))
               (record { went_well = fails.broken.went_well; calls = fails.broken.stops.calls }));
           file = still_file fails.file kept.file;
           told = still_told fails.told kept.told;
           from = still_from kept.from;
         };
   }
-    where
-      last_named : (n number : ℕ) → Some n ≡ Some number → n ≡ number
-      last_named n number same = cc same
 
 -- If nothing is written, a crash leaves the cells that the file has.
 pub leaves-quiet : {D : Type 0} (drive : D → Drive) (w : ℕ) (s : State) (h : List Entry) (e : Entry) (log : Option (KeptView D)) → ((d : D) → KeepsLaws (drive d))

@@ -1,5 +1,5 @@
 -- What the log of a store keeps. A store may have no log.
-use Rattle.std.specs.Prelude.{◌≡◌, ◌⊎◌, ℕ, ◌+◌, ◌≤◌, Bool, true, false, List, [], ◌∷◌, ◌++◌, length, replicate, Option, Some, None, is_some, ⊤}
+use Rattle.std.specs.Prelude.{◌≡◌, ◌≢◌, ◌⊎◌, ℕ, ◌+◌, ◌≤◌, Bool, true, false, List, [], ◌∷◌, ◌++◌, length, replicate, Option, Some, None, is_some, ⊤}
 use Rattle.causes.specs.Causes.{Rose}
 use Rattle.cell_format.specs.declared.cell.Cell.{Cell}
 use Rattle.plain_list.specs.declared.entries.Entry.{Entry}
@@ -7,11 +7,12 @@ use Rattle.plain_list.specs.declared.entries.Entry.TheVariants.{Fail}
 use Rattle.plain_list.specs.declared.entries.Lost.{Lost}
 use Rattle.plain_list.specs.World.{World}
 use Rattle.plain_list.specs.State.{State}
+use Rattle.plain_list.specs.Batch.{AreFailsOf}
 pub use Rattle.plain_list.specs.History.{failed_cell}
 use Rattle.disk_trait.specs.Drive.{Drive, Made, SameFile}
 use Rattle.disk_trait.specs.Moments.{LeavesOnly, LeavesNow}
 use Rattle.log_state.specs.Recovers.{Recovers}
-use Rattle.log_state.specs.Changes.{cells_of, lost_cells}
+use Rattle.log_state.specs.Changes.{cells_of, failed_cells, lost_cells}
 use Rattle.recovery.specs.Calls.{AllWentWell, EndsAtFault}
 use Rattle.kept_log.specs.KeptView.{KeptView, kept_view}
 use Rattle.kept_log.specs.Kept.{StartsWith, RecoversTo, Keeps}
@@ -169,7 +170,8 @@ LeavesNowAllOrNone drive w s h es (Some old) (Some new) =
     (first : List Cell) → StartsWith w first (drive old.start) → LeavesNow (drive new.disk) (RecoversWithAll w first s.world h es)
 LeavesNowAllOrNone drive w s h es _ _ = ⊤
 
--- A device call failed while the cells were added. The first of them has this number. The log takes no more cells.
+-- A device call failed while the cells were added. The first of them has this number. The log takes no more cells. It
+-- keeps the history that ends with failed appends of this number which have lost these cells.
 pub record AllMissed {D : Type 0} (drive : D → Drive) (more : List Cell) (number : ℕ) (old new : Option (KeptView D)) : Type 0 where
   pub named : number ≡ cells_in old
   pub count : cells_in new ≡ cells_in old
@@ -177,6 +179,8 @@ pub record AllMissed {D : Type 0} (drive : D → Drive) (more : List Cell) (numb
   pub rose : RoseIn drive old new
   pub breaks : AllBreakIn drive more old new
   pub leaves : (w : ℕ) (s : State) (h es : List Entry) → AreNext w s h es more → KeepsIn drive w s h old → LeavesNowAllOrNone drive w s h es old new
+  pub keeps : (w : ℕ) (s : State) (h es lost : List Entry) → AreNext w s h es more → AreFailsOf number lost → lost ≢ [] → failed_cells lost ≡ more
+      → KeepsIn drive w s h old → KeepsIn drive w s (h ++ lost) new
 
 -- Why the cells were not added: the drive failed, or there was no memory. Without memory nothing changed.
 abbrev pub NotAdded : {D : Type 0} → (D → Drive) → List Cell → AppendAllLost → Option (KeptView D) → Option (KeptView D) → Type 0

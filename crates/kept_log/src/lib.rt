@@ -6,7 +6,8 @@
 //!   the entry of the cell. After a disk fault it keeps the history that ends with the failed append, which names the
 //!   number of cells.
 //! - At each moment of an append a crash leaves the cells from its start, with the new one or without it.
-//! - `append_all` adds a batch. A crash leaves all cells of the batch or none.
+//! - `append_all` adds a batch. A crash leaves all cells of the batch or none. After a disk fault the journal keeps the
+//!   history that ends with the failed appends of the batch's changes.
 //! - `renew` continues as if the log were opened in its present state. The journal then keeps the empty history from
 //!   the state that the old one led to.
 //! - Without a log nothing is kept, and no append fails.
