@@ -2,17 +2,17 @@
 use Rattle.std.proofs.Common.{◌≡◌, ℕ, ◌+◌, ◌%◌, ◌≤◌, Bool, true, false, cond, not, List, [], ◌∷◌, ◌++◌, length, map, Option, Some, None, refl, sym, ap, subst, ◌∙◌, length-append}
 use Rattle.std.specs.Prelude.{nat_le, ◌==◌, ◌&&◌}
 use Rattle.std.specs.List.{AllByRecursion}
-use Rattle.std.specs.Cmp.{first_so, second_so}
+use Rattle.std.specs.Cmp.{second_so}
 use Rattle.std.proofs.lemmas.Bool.{leb-true}
 use Rattle.std.proofs.Math.Nat.{add-mod_right, zero-mod}
-use mathlib.Core.Bool.{true≢false}
 use Rattle.zorder.specs.Name.{first_key}
 use Rattle.zorder.specs.SameName.{same_name, same_name-decides}
 use Rattle.zorder.specs.Tile.{tiles_from, next_key, bit_lists, children}
 use Rattle.zorder.proofs.Tiles.{tiles_from-children}
 use Rattle.plain_list.specs.declared.entries.Entry.{Entry}
 use Rattle.plain_list.specs.declared.entries.Entry.TheVariants.{Fail, Call, Begin, Install, Abandon}
-use Rattle.plain_list.specs.State.{OpenSplit, State, empty_state, split_name, without_name, is_leaf, split_leaf, installed, step, state_after, may_split, is_possible, is_free, is_fail, is_empty, is_legal_history, IsLegal}
+use Rattle.plain_list.specs.State.{OpenSplit, State, empty_state, split_name, without_name, is_leaf, split_leaf, installed, step, state_after, may_split, is_possible, IsLegal}
+use Rattle.plain_list.proofs.SplitHistories.{first_step}
 use Rattle.plain_list.proofs.SplitStates.{Found, found-open, all-filter, all-push}
 use Rattle.index_build.specs.Grown.{IsGrown}
 use Rattle.index_build.proofs.ChildNames.{AreLong, bit_lists-long}
@@ -103,13 +103,5 @@ grown-step w s (Fail cell lost) g possible = record { leaves = g.leaves; room = 
 pub grown-after : (w : ℕ) (s : State) (h : List Entry) → IsGrownState w s → IsLegal w s h → IsGrownState w (state_after w s h)
 grown-after w s [] g legal = g
 grown-after w s (e ∷ h) g legal =
-    by_test (is_fail e) h
-    (grown-step w s e g (first_so (is_possible w s e) (is_free s e) (first_so (is_possible w s e && is_free s e) (cond (is_fail e) (is_empty h) (is_legal_history w (step w s e) h)) legal)))
-    (second_so (is_possible w s e && is_free s e) (cond (is_fail e) (is_empty h) (is_legal_history w (step w s e) h)) legal)
-    (λ next later. grown-after w (step w s e) h next later)
-  where
-    by_test : (b : Bool) (rest : List Entry) → IsGrownState w (step w s e) → cond b (is_empty rest) (is_legal_history w (step w s e) rest) ≡ true
-        → (IsGrownState w (step w s e) → is_legal_history w (step w s e) rest ≡ true → IsGrownState w (state_after w (step w s e) rest)) → IsGrownState w (state_after w (step w s e) rest)
-    by_test true [] next none later = next
-    by_test true (f ∷ rest) next none later = absurd (true≢false (sym none))
-    by_test false rest next legal later = later next legal
+    let first = first_step w s e h legal in
+    grown-after w (step w s e) h (grown-step w s e g first.possible) first.rest
