@@ -19,6 +19,9 @@ use std::sync::ledger::Ledger;
 use step_count::Steps;
 use zorder::{Memory, Name, Placed, Point};
 
+// For so many more waiting subtrees memory is taken at once.
+const MANY_AHEAD: usize = 20;
+
 /// The objects that were found and not returned yet, and the subtrees that aren't opened yet.
 #[derive(Drop)]
 pub(crate) struct Front<'a, P> {
@@ -137,6 +140,7 @@ fn put<P: Drop>(waiting: &mut BinaryHeap<Waiting<P>>, far: Waiting<P>) -> Result
     ensures ordered { IsHeap waiting_cmp (heap_items waiting.new) }
     ensures err { OnErr result (heap_items waiting.new ≡ heap_items waiting.old) }
 {
+    waiting.reserve(MANY_AHEAD)?;
     waiting.push(far)?;
     Ok(())
 }
