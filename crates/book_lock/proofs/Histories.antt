@@ -5,7 +5,7 @@ use Rattle.std.proofs.lemmas.Bool.Decides.{nat_tests}
 use Rattle.std.specs.Prelude.{Some, slice_get, if◌then◌else◌, nat_lt}
 use mathlib.Core.List.{IsPrefix, append-nil}
 use Rattle.plain_list.specs.declared.entries.Entry.{Entry}
-use Rattle.book_lock.specs.Ends.{last_of, longer, shorter}
+use Rattle.book_lock.specs.Ends.{next_of, longer, shorter}
 
 module _ {A : Type 0} where
   pub prefix_refl : (xs : List A) → IsPrefix xs xs
@@ -61,10 +61,9 @@ module _ {A : Type 0} where
   get_snoc (y ∷ xs) e zero x h = inl h
   get_snoc (y ∷ xs) e (suc k) x h = ⊎_elim (λ i. inl i) (λ t. inr (ap suc t.0, t.1)) (get_snoc xs e k x h)
 
-pub last_of-snoc : (xs : List Entry) (e : Entry) → last_of (xs ++ e ∷ []) ≡ e
-last_of-snoc [] e = refl
-last_of-snoc (x ∷ []) e = refl
-last_of-snoc (x ∷ y ∷ xs) e = last_of-snoc (y ∷ xs) e
+pub next_of-after : (seen : List Entry) (e : Entry) (rest : List Entry) → next_of seen (seen ++ e ∷ rest) ≡ e
+next_of-after [] e rest = refl
+next_of-after (x ∷ xs) e rest = next_of-after xs e rest
 
 pub longer_begins : (xs ys log : List Entry) → IsPrefix xs log → IsPrefix ys log → IsPrefix (longer xs ys) log × IsPrefix (shorter xs ys) log
 longer_begins xs ys log p q = go (nat_lt (length xs) (length ys))

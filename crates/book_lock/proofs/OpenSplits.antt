@@ -10,7 +10,8 @@ use Rattle.std.proofs.lemmas.Bool.{eqb-true}
 use Rattle.zorder.specs.SameName.{same_name}
 use Rattle.plain_list.specs.declared.entries.Entry.{Entry}
 use Rattle.plain_list.specs.declared.entries.Entry.TheVariants.{Fail, Call, Begin, Install, Abandon}
-use Rattle.plain_list.specs.State.{OpenSplit, State, split_name, is_splitting, without_number, without_name, may_split, is_possible, is_free, is_empty, step, state_after, is_legal_history, IsLegal}
+use Rattle.plain_list.specs.State.{OpenSplit, State, split_name, is_splitting, without_number, without_name, may_split, is_possible, is_free, step, state_after, is_legal_history, IsLegal}
+use Rattle.plain_list.proofs.Histories.{legal-rest}
 use Rattle.book_lock.specs.Ends.{IsBegin, IsEnd}
 
 same_if : {A : Type 0} (b : Bool) (x y : A) → b ≡ true → (if b then x else y) ≡ x
@@ -46,11 +47,6 @@ install_open w s n h legal = first_so (is_possible w s (Install n)) true (first_
 abandon_open : (w : ℕ) (s : State) (n : ℕ) (h : List Entry) → IsLegal w s (Abandon n ∷ h) → is_some (split_name s.splits n) ≡ true
 abandon_open w s n h legal = first_so (is_possible w s (Abandon n)) true (first_so (is_possible w s (Abandon n) && true) (is_legal_history w (step w s (Abandon n)) h) legal)
 
--- Nothing follows a failed append.
-no_more : {X : Type 0} (h : List Entry) → is_empty h ≡ true → (q : ℕ) (e : Entry) → slice_get h q ≡ Some e → X
-no_more [] empty q e at = absurd (cc (at))
-no_more (x ∷ h) empty q e at = absurd (true≢false (sym empty))
-
 -- The begins of a legal history have numbers above those begun before.
 pub begin_above : (w : ℕ) (s : State) (h : List Entry) → IsLegal w s h → (q n : ℕ) → IsBegin h q n → s.begun < n
 begin_above w s [] legal q n b = absurd (cc (b.1))
@@ -68,7 +64,7 @@ begin_above w s (Install m ∷ h) legal (suc q) n b = begin_above w (step w s (I
 begin_above w s (Abandon m ∷ h) legal zero n b = absurd (cc (b.1))
 begin_above w s (Abandon m ∷ h) legal (suc q) n b = begin_above w (step w s (Abandon m)) h (abandon_rest w s m h legal) q n b
 begin_above w s (Fail cell lost ∷ h) legal zero n b = absurd (cc (b.1))
-begin_above w s (Fail cell lost ∷ h) legal (suc q) n b = no_more h legal q (Begin n b.0) b.1
+begin_above w s (Fail cell lost ∷ h) legal (suc q) n b = begin_above w s h (legal-rest w s (Fail cell lost) h legal) q n b
 
 -- No number is begun twice.
 pub begin_once : (w : ℕ) (s : State) (h : List Entry) → IsLegal w s h → (n q r : ℕ) → IsBegin h q n → IsBegin h r n → r ≡ q
@@ -96,7 +92,7 @@ begin_once w s (Abandon m ∷ h) legal n (suc q) zero b c = absurd (cc (c.1))
 begin_once w s (Abandon m ∷ h) legal n (suc q) (suc r) b c = ap suc (begin_once w (step w s (Abandon m)) h (abandon_rest w s m h legal) n q r b c)
 begin_once w s (Fail cell lost ∷ h) legal n zero (suc r) b c = absurd (cc (b.1))
 begin_once w s (Fail cell lost ∷ h) legal n (suc q) zero b c = absurd (cc (c.1))
-begin_once w s (Fail cell lost ∷ h) legal n (suc q) (suc r) b c = no_more h legal q (Begin n b.0) b.1
+begin_once w s (Fail cell lost ∷ h) legal n (suc q) (suc r) b c = ap suc (begin_once w s h (legal-rest w s (Fail cell lost) h legal) n q r b c)
 
 -- Open splits, and one more after them.
 split_name-append : (splits : List OpenSplit) (n m : ℕ) (name other : List Bool) → split_name splits n ≡ Some name → split_name (splits ++ record { number = m; name = other } ∷ []) n ≡ Some name
@@ -187,8 +183,7 @@ open_stays w s (Install m ∷ h) legal n name is none =
 open_stays w s (Abandon m ∷ h) legal n name is none =
     let apart : m ≢ n = (λ e. none 0 (Abandon m, refl, inr (ap (λ (k : ℕ). Abandon k) e))) in
     open_stays w (step w s (Abandon m)) h (abandon_rest w s m h legal) n name (split_name-without s.splits n m name apart is) (λ p. none (suc p))
-open_stays w s (Fail cell lost ∷ []) legal n name is none = is
-open_stays w s (Fail cell lost ∷ e ∷ h) legal n name is none = absurd (true≢false (sym legal))
+open_stays w s (Fail cell lost ∷ h) legal n name is none = open_stays w s h (legal-rest w s (Fail cell lost) h legal) n name is (λ p. none (suc p))
 
 -- A split that a legal history began and didn't end is open after it, under its name.
 pub begun_open : (w : ℕ) (s : State) (h : List Entry) → IsLegal w s h → Numbered s → (q n : ℕ) (name : List Bool) → slice_get h q ≡ Some (Begin n name)
@@ -214,7 +209,7 @@ begun_open w s (Abandon m ∷ h) legal numbered zero n name at none = absurd (cc
 begun_open w s (Abandon m ∷ h) legal numbered (suc q) n name at none =
     begun_open w (step w s (Abandon m)) h (abandon_rest w s m h legal) (end_numbered s m numbered) q n name at (λ p. none (suc p))
 begun_open w s (Fail cell lost ∷ h) legal numbered zero n name at none = absurd (cc (at))
-begun_open w s (Fail cell lost ∷ h) legal numbered (suc q) n name at none = no_more h legal q (Begin n name) at
+begun_open w s (Fail cell lost ∷ h) legal numbered (suc q) n name at none = begun_open w s h (legal-rest w s (Fail cell lost) h legal) numbered q n name at (λ p. none (suc p))
 
 is_none : {A : Type 0} (o : Option A) → o ≡ None → is_some o ≡ true → (X : Type 0) → X
 is_none o none some X = absurd (true≢false (sym some ∙ ap is_some none))
@@ -246,4 +241,6 @@ end_begun w s (Abandon m ∷ h) legal n (suc p) none end =
     let t = end_begun w (step w s (Abandon m)) h (abandon_rest w s m h legal) n p (split_name-none (λ o. not (o.number == m)) s.splits n none) end in
     (suc t.0, omega arith, t.2)
 end_begun w s (Fail cell lost ∷ h) legal n zero none (e, at, is) = ⊎_elim (λ i. absurd (cc (at, i))) (λ i. absurd (cc (at, i))) is
-end_begun w s (Fail cell lost ∷ h) legal n (suc p) none end = no_more h legal p end.0 end.1
+end_begun w s (Fail cell lost ∷ h) legal n (suc p) none end =
+    let t = end_begun w s h (legal-rest w s (Fail cell lost) h legal) n p none end in
+    (suc t.0, omega arith, t.2)

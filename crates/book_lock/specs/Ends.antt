@@ -1,5 +1,5 @@
 -- Begins and ends of splits in a history, and which pass may end which split.
-use Rattle.std.specs.Prelude.{◌≡◌, ℕ, List, [], ◌∷◌, length, Bool, Some, slice_get, ◌⊎◌, if◌then◌else◌, nat_lt}
+use Rattle.std.specs.Prelude.{◌≡◌, ℕ, List, [], ◌∷◌, length, Bool, Some, slice_get, slice_index_or, ◌⊎◌, if◌then◌else◌, nat_lt}
 use Rattle.plain_list.specs.declared.entries.Entry.{Entry}
 use Rattle.plain_list.specs.declared.entries.Entry.TheVariants.{Begin, Install, Abandon}
 use Rattle.book_lock.specs.Own.{Owns}
@@ -32,8 +32,6 @@ longer xs ys = if nat_lt (length xs) (length ys) then ys else xs
 abbrev pub shorter : List Entry → List Entry → List Entry
 shorter xs ys = if nat_lt (length xs) (length ys) then xs else ys
 
--- The newest entry.
-abbrev pub last_of : List Entry → Entry
-last_of [] = Install 0
-last_of (e ∷ []) = e
-last_of (e ∷ f ∷ es) = last_of (f ∷ es)
+-- The first entry of a history after those that were seen.
+abbrev pub next_of : List Entry → List Entry → Entry
+next_of seen log = slice_index_or log (length seen) (Install 0)

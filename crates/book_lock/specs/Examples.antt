@@ -4,7 +4,7 @@ use Rattle.std.proofs.Common.{refl, inl, inr}
 use Rattle.plain_list.specs.declared.entries.Entry.TheVariants.{Begin, Install, Abandon, Call}
 use Rattle.plain_list.specs.declared.ops.Op.TheVariants.{Find}
 use Rattle.book_lock.specs.Own.{times, once_below, merge}
-use Rattle.book_lock.specs.Ends.{IsBegin, IsEnd, EndsSplit, longer, last_of}
+use Rattle.book_lock.specs.Ends.{IsBegin, IsEnd, EndsSplit, longer, next_of}
 
 two_lists : merge (1 ∷ 4 ∷ []) (0 ∷ 3 ∷ 5 ∷ []) ≡ 0 ∷ 1 ∷ 3 ∷ 4 ∷ 5 ∷ []
 two_lists = refl
@@ -33,5 +33,5 @@ more = refl
 as_many : longer (Install 1 ∷ []) (Install 1 ∷ []) ≡ Install 1 ∷ []
 as_many = refl
 
-newest : last_of (Begin 1 [] ∷ Install 1 ∷ []) ≡ Install 1
-newest = refl
+first_unseen : next_of (Begin 1 [] ∷ []) (Begin 1 [] ∷ Install 1 ∷ Install 2 ∷ []) ≡ Install 1
+first_unseen = refl

@@ -5,6 +5,7 @@
 //! its parts of the right to close the lock, and whether it holds the lock.
 //! - `take` returns the value. Its history begins with everything that the pass had seen, and may have more.
 //! - `note` makes the value's newest entry the next entry of the one history, at a position that is the pass's own.
+//!   `note_next` does the same for one of several new entries.
 //! - `put_back` returns the value to the lock.
 //! - `close` returns the value after all passes are joined. Each position then has exactly one owner.
 //!

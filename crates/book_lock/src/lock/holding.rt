@@ -1,5 +1,5 @@
 //! Taking the lock, adding to the history, and giving the lock back.
-ghost use Rattle.std.specs.Prelude.{◌≡◌, ◌+◌, ◌^◌, ◌<◌, true, false, [], ◌∷◌, ◌++◌, length};
+ghost use Rattle.std.specs.Prelude.{◌≡◌, ◌+◌, ◌^◌, ◌<◌, true, false, List, [], ◌∷◌, ◌++◌, length, take};
 ghost use mathlib.Core.List.{IsPrefix};
 ghost use Rattle.plain_list.specs.declared.entries.Entry.{Entry};
 ghost use Rattle.book_lock.specs.Own.{Rises, IsBelow};
@@ -65,6 +65,18 @@ impl<V: Held> BookLock<V> {
         requires origin { V.origin value.now ≡ pass.old.origin }
         requires entry { (e : Entry) × (V.entries value.now ≡ pass.old.seen ++ e ∷ []) × MayNote pass.old.seen pass.old.own e }
         ensures { pass.new ≡ record pass.old { seen = V.entries value.now; own = pass.old.own ++ length pass.old.seen ∷ [] } }
+    {
+        self.note_next(pass, value);
+    }
+
+    /// Makes the value's first entry that the pass has not seen the next one of the history. A step that adds several
+    /// entries is noted by one call for each of them, while the pass holds the lock.
+    pub fn note_next(&self, pass: &mut Pass<V>, value: &V)
+        requires lock { pass.old.lock ≡ self.now }
+        requires on { pass.old.holds ≡ true }
+        requires origin { V.origin value.now ≡ pass.old.origin }
+        requires entry { (e : Entry) × (rest : List Entry) × (V.entries value.now ≡ pass.old.seen ++ e ∷ rest) × MayNote pass.old.seen pass.old.own e }
+        ensures { pass.new ≡ record pass.old { seen = take (length pass.old.seen + 1) (V.entries value.now); own = pass.old.own ++ length pass.old.seen ∷ [] } }
     {
         // The number of entries fits a word, so the count of the history can't wrap to 0.
         let _events = value.events();
