@@ -8,6 +8,9 @@ pub mod Folding
 pub mod FullLemmas
 pub mod KeyPlaces
 pub mod MemberSteps
+pub mod NetSteps
+pub mod Nets
+pub mod PlanSteps
 pub mod PlacesAfter
 pub mod Rising
 pub mod RowSteps

@@ -9,7 +9,7 @@ use Rattle.plain_list.specs.Places.{IsRising}
 use Rattle.plain_list.specs.Answer.{with_member, with_moved, without}
 use Rattle.point_table.proofs.RowSteps.{with_moved-same}
 
-without-none : (id : ℕ) (ms : World) → position_of ms id ≡ None → without id ms ≡ ms
+pub without-none : (id : ℕ) (ms : World) → position_of ms id ≡ None → without id ms ≡ ms
 without-none id [] none = refl
 without-none id (n ∷ ns) none =
     let rest : position_of ns id ≡ None → without id ns ≡ ns = without-none id ns in

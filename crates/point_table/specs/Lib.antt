@@ -4,7 +4,10 @@ pub mod Crowded
 pub mod CrowdedInside
 pub mod Crowds
 pub mod Divisions
+pub mod Drafts
 pub mod IsTable
+pub mod Nets
+pub mod Plans
 pub mod Sized
 pub mod Splits
 pub mod TableView

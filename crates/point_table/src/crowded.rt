@@ -1,5 +1,5 @@
 //! The names of the leaves that are to be split, in key order.
-ghost use Rattle.std.specs.Prelude.{◌≡◌, ◌==◌, ◌+◌, ◌-◌, ◌<◌, ◌≤◌, [], OnOk, length, vec_len, vec_capacity};
+ghost use Rattle.std.specs.Prelude.{◌≡◌, ◌==◌, ◌+◌, ◌-◌, ◌<◌, ◌≤◌, [], IfOk, OnOk, length, vec_len, vec_capacity};
 ghost use Rattle.std.specs.List.{list_any};
 ghost use Rattle.zorder.specs.SameName.{same_name};
 ghost use Rattle.plain_list.specs.State.{is_splitting};
@@ -61,6 +61,16 @@ impl Crowded {
         ensures { result ≡ record { names = names.items; room = 0 } }
     {
         Crowded { names, room: 0 }
+    }
+
+    /// Copies the names. The copy has no room for more until `reserve`.
+    pub(crate) fn copy(&self, alloc: Global) -> Result<Crowded, AllocError>
+        ensures { IfOk result (λ copy. copy ≡ record { names = self.now.names; room = 0 }) }
+    {
+        Ok(Crowded {
+            names: Vec::from_slice(alloc, &self.names)?,
+            room: 0,
+        })
     }
 
     pub(crate) fn is_empty(&self) -> bool

@@ -6,9 +6,10 @@
 //! not taken.
 //!
 //! `update` returns the answer of the plain list. It keeps the names of the leaves, and the bases of leaves whose
-//! splits are open. Every other leaf that it changes has no delta afterwards. `index_anew` builds an index over the
-//! same objects with the leaves that the size requires (`StandsBySize`). `take_index` puts such an index in place of
-//! the old one.
+//! splits are open. Every other leaf that it changes has no delta afterwards. `draft` answers a batch of operations
+//! beside the table, and `publish` makes the batch's changes after one step. `index_anew` builds an index over the same
+//! objects with the leaves that the size requires (`StandsBySize`). `take_index` puts such an index in place of the old
+//! one.
 //!
 //! Not here: the history of a run, its log, and which splits may begin (`commit_book`).
 #![tactic(auto)]
@@ -17,4 +18,4 @@ mod crowded;
 mod table;
 
 pub use crowded::{Begun, is_among};
-pub use table::{PointTable, leaf_names};
+pub use table::{Draft, PointTable, leaf_names};

@@ -19,11 +19,15 @@ ghost use Rattle.point_table.specs.Updates.{IsUpdate, Updates, TellsIf};
 
 mod anew;
 mod built;
+mod drafts;
+mod net;
+mod plans;
 mod splits;
 
 use crate::crowded::{Begun, Crowded, is_among, is_over};
 pub use anew::leaf_names;
 use bucket_versions::{Bucket, Commit, Row, RowChange, Undone};
+pub use drafts::Draft;
 use index_layer::{Index, Part};
 use plain_list::{Answer, MOST_MEMBERS, MemberShards, Op, Stamped, World};
 use std::alloc::Global;
