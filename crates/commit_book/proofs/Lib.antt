@@ -4,6 +4,7 @@ pub mod FirstBooks
 pub mod FoundStates
 pub mod KeptLemmas
 pub mod OnLog
+pub mod QuietBatches
 pub mod RefusalLemmas
 pub mod Rotations
 pub mod Sent
@@ -13,4 +14,8 @@ pub mod SplitCells
 pub mod StillWorlds
 pub mod Undone
 pub mod UpdateCalls
+pub mod EventLemmas
 pub mod EarlyReturns
+pub mod BatchLemmas
+pub mod BatchStates
+pub mod BatchCalls

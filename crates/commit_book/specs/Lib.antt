@@ -1,4 +1,6 @@
 pub mod Answers
+pub mod BatchSteps
+pub mod Batches
 pub mod BookInside
 pub mod BookView
 pub mod Crash

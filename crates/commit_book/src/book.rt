@@ -18,6 +18,7 @@ ghost use Rattle.commit_book.specs.OpenedLog.{IsOpenedLog};
 ghost use Rattle.commit_book.specs.Refusals.{IsRefusedBy, IsMemory, IsMemoryOrDisk, IsNoFault, LeavesRefused, call_refusal, update_refusal};
 ghost use Rattle.commit_book.specs.Rotation.{book_on};
 
+mod batches;
 mod renewal;
 mod rotation;
 mod splits;
@@ -27,6 +28,7 @@ use crate::history::History;
 use crate::open_splits::OpenSplits;
 use crate::opening::Opening;
 use crate::steps::{Step, fault_of};
+pub use batches::BatchDone;
 use disk_trait::LogDisk;
 use index_layer::Index;
 use kept_log::Journal;
@@ -356,8 +358,8 @@ fn note_quiet(history: &mut History, answer: &Answer, call: Entry)
     }
 }
 
-// Whether an answer is that of a change.
-fn is_change(answer: &Answer) -> bool
+/// Whether an answer is that of a change.
+pub(crate) fn is_change(answer: &Answer) -> bool
     ensures { result ≡ is_change answer.now }
 {
     matches!(answer, Answer::Done | Answer::Moved(_) | Answer::Gone(_))

@@ -14,15 +14,17 @@ pub enum BookFault {
         /// The record whose append failed, counted from 0.
         cell: u64,
     },
-    /// The drive failed during the append of this record. From now on the book is closed, and its last entry has the
-    /// lost step.
+    /// The drive failed during the append of this record, or of a batch whose first record this is. From now on the book
+    /// is closed. Its last entry has the lost step. After a batch there is such an entry for each change of the batch.
     Disk {
-        /// The record whose append failed, counted from 0. The log may have it or not.
+        /// The record whose append failed, counted from 0. The log may have it or not. Of a batch it has all records or
+        /// none.
         cell: u64,
     },
-    /// The history has 4,194,304 entries.
+    /// The history has 4,194,304 entries, or would have more after the batch.
     HistoryFull,
-    /// The log has 16,777,216 records, and the step needs one.
+    /// The log has 16,777,216 records, and the step needs one. Or it has no room for one record for each put, move and
+    /// removal of a batch.
     LogFull,
     /// Memory ran out. The log was not written.
     Memory,

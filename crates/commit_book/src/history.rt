@@ -1,9 +1,11 @@
 //! The entries of a run, with memory for those that are promised.
-ghost use Rattle.std.specs.Prelude.{◌≡◌, ◌+◌, ◌-◌, ◌<◌, ◌≤◌, ◌∷◌, ◌++◌, ◌^◌, [], OnOk, OnErr, length, vec_len, vec_capacity};
+ghost use Rattle.std.specs.Prelude.{◌≡◌, ◌+◌, ◌-◌, ◌<◌, ◌≤◌, ◌∷◌, ◌++◌, ◌^◌, [], if◌then◌else◌, OnOk, OnErr, length, vec_len, vec_capacity};
 ghost use Rattle.plain_list.specs.History.{call_count};
+ghost use Rattle.plain_list.specs.Batch.{batch_calls};
 ghost use Rattle.std.specs.List.{list_all};
 ghost use Rattle.commit_book.specs.Answers.{is_ask, is_still, is_still_since};
-ghost use Rattle.commit_book.specs.Events.{with_entry};
+ghost use Rattle.commit_book.specs.Events.{with_entry, with_entries};
+ghost use Rattle.commit_book.specs.BatchSteps.{flagged_fails};
 
 use plain_list::{Entry, Lost, Op};
 use std::alloc::{AllocError, Global};
@@ -92,6 +94,60 @@ impl History {
         push_within(&mut self.entries, entry);
     }
 
+    /// Appends the calls of a batch, each of which uses one place of the room. The first has this row, and each of the
+    /// others the next one.
+    pub(crate) fn push_calls(&mut self, session: u8, row: u32, ops: &[Op])
+        requires room { length ops.now ≤ self.old.room }
+        requires few { length self.old.entries + length ops.now < 2 ^ 63 }
+        requires rows { row + length ops.now ≤ 2 ^ 32 }
+        ensures { self.new ≡ with_entries (batch_calls session row ops.now) self.old }
+    {
+        for (i, op) in ops.iter().enumerate() {
+            self.push(Entry::Call {
+                session,
+                row: row + i as u32,
+                op: *op,
+            });
+        }
+    }
+
+    /// Appends the failed appends of a batch, one for each operation that would have changed the world. `cell` is the
+    /// number of the batch's first record.
+    pub(crate) fn push_fails(
+        &mut self,
+        cell: u64,
+        session: u8,
+        row: u32,
+        ops: &[Op],
+        changes: &[bool],
+    )
+        requires lengths { length changes.now ≡ length ops.now }
+        requires room { length ops.now ≤ self.old.room }
+        requires few { length self.old.entries + length ops.now < 2 ^ 63 }
+        requires rows { row + length ops.now ≤ 2 ^ 32 }
+        ensures { self.new ≡ with_entries (flagged_fails cell session row changes.now ops.now) self.old }
+    {
+        for (i, op) in ops.iter().enumerate() {
+            let lost = Lost::Call {
+                session,
+                row: row + i as u32,
+                op: *op,
+            };
+            self.push_if(changes[i], Entry::Fail { cell, lost });
+        }
+    }
+
+    // Appends an entry under a condition.
+    fn push_if(&mut self, condition: bool, entry: Entry)
+        requires room { 0 < self.old.room }
+        requires few { length self.old.entries < 2 ^ 63 }
+        ensures { self.new ≡ with_entries (if condition then entry ∷ [] else []) self.old }
+    {
+        if condition {
+            self.push(entry);
+        }
+    }
+
     pub(crate) fn into_entries(self) -> Vec<Entry>
         ensures { result.items ≡ self.entries }
     {
@@ -133,7 +189,7 @@ fn is_still(entry: &Entry) -> bool
     }
 }
 
-fn is_ask(op: &Op) -> bool
+pub(crate) fn is_ask(op: &Op) -> bool
     ensures { result ≡ is_ask op.now }
 {
     matches!(op, Op::Find { .. } | Op::Within { .. } | Op::Near { .. })

@@ -11,6 +11,10 @@
 //! unless the drive failed. Then the history ends with the lost step, and the book is closed. In each step (`Step`) the
 //! table changes after the record is in the log and the entry in the history.
 //!
+//! `update_all` makes a batch of changes and finds in one step. Its entries follow one another, and the log takes the
+//! records of its changes together: a crash leaves all of them or none. The batch is worked out beside the table first
+//! (`BatchPlan`), so a batch that is refused or whose append fails has changed nothing there.
+//!
 //! `renew` begins an empty history where the present one ends, and `room` returns how much more the book takes.
 //! `content` copies the objects and the names of the leaves, from which the caller writes another log. `rotate`
 //! continues on that log, with an empty history. `anew` and `rotate_anew` do the same with fresh leaves, those that the
@@ -20,6 +24,7 @@
 //! (`split_prepare`). Which thread may call, and when, is in `book_lock`.
 #![tactic(auto)]
 
+mod batch_steps;
 mod book;
 mod faults;
 mod history;
@@ -29,7 +34,7 @@ mod sending;
 mod steps;
 
 pub use book::{
-    Anew, Book, BookParts, Content, Done, MOST_CELLS_TO_BEGIN, MOST_EVENTS, MOST_EVENTS_TO_BEGIN,
-    Replaced, Room, Snapshot,
+    Anew, BatchDone, Book, BookParts, Content, Done, MOST_CELLS_TO_BEGIN, MOST_EVENTS,
+    MOST_EVENTS_TO_BEGIN, Replaced, Room, Snapshot,
 };
 pub use faults::{BookFault, RenewFault};

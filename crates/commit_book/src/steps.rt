@@ -82,8 +82,8 @@ fn cell_of(lost: &Lost) -> Option<Cell>
     }
 }
 
-// The record of an operation that changes the world, or `None` if the operation never does.
-fn change_cell(op: &Op) -> Option<Cell>
+/// The record of an operation that changes the world, or `None` if the operation never does.
+pub(crate) fn change_cell(op: &Op) -> Option<Cell>
     ensures { MatchOption result (change_cells op.now ≡ []) (λ cell. change_cells op.now ≡ cell ∷ []) }
 {
     match *op {
