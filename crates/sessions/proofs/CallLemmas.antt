@@ -82,6 +82,14 @@ query-cause origin op cells before is =
     and_right (cells == most_cells) (is_change (answer_of (world_after origin.world before) op)) (query-quiet (world_after origin.world before) op is) in
     (λ i. first_of (call_refusal before) (cond (quiet i) (Some book.LogFull) None)) ∙ first-none (call_refusal before)
 
+-- a pass that has seen a book's entries returns the leaf that the book returns
+pub full-seen : {D : Type 0} (drive : D → Drive) (w : ℕ) (b mid : BookView D) (old back : Known) → origin_of drive b ≡ old.origin → AreBooks drive w b mid → back.seen ≡ mid.entries → back.origin ≡ old.origin
+    → full_leaf w mid.bucket (state_after w mid.opening mid.entries) ≡ next_full w back
+full-seen drive w b mid old back from books seen origin =
+    let same : origin_of drive mid ≡ back.origin = same-origin drive b mid books.origin ∙ from ∙ sym origin in
+    let start : start_of (origin_of drive mid) ≡ mid.opening = start-of-origin drive w mid books.after.opening in
+    (λ i. full_leaf w mid.bucket (state_after w (sym start i) mid.entries)) ∙ (λ i. full_leaf w (same i).bucket (state_after w (start_of (same i)) (sym seen i)))
+
 module _ {D : Type 0} (drive : D → Drive) (w : ℕ) (b mid : BookView D) (old took back : Known) (session row : ℕ) (op : Op) (was : WasTaken drive b old took) (books : AreBooks drive w b mid) where
   update-added : (r : Result Done BookFault) → IfOk r (λ d. BookReplies w b mid session row op d.place d.answer d.full) → Says (λ (d : Done). mid.entries ≡ b.entries ++ Call session row op ∷ []) r
   update-added (Ok d) ok = ok.notes.entries
@@ -95,14 +103,9 @@ module _ {D : Type 0} (drive : D → Drive) (w : ℕ) (b mid : BookView D) (old 
     left = err;
   }
 
-  -- the pass tells the leaf that the book tells
   back-full : back ≡ has_given took true mid.entries → full_leaf w mid.bucket (state_after w mid.opening mid.entries) ≡ next_full w back
   back-full given =
-      let seen : back.seen ≡ mid.entries = ap (λ (k : Known). k.seen) given in
-      let origin : back.origin ≡ old.origin = ap (λ (k : Known). k.origin) given ∙ ap (λ (k : Known). k.origin) was.took_is in
-      let same : origin_of drive mid ≡ back.origin = same-origin drive b mid books.origin ∙ was.origin ∙ sym origin in
-      let start : start_of (origin_of drive mid) ≡ mid.opening = start-of-origin drive w mid books.after.opening in
-      (λ i. full_leaf w mid.bucket (state_after w (sym start i) mid.entries)) ∙ (λ i. full_leaf w (same i).bucket (state_after w (start_of (same i)) (sym seen i)))
+      full-seen drive w b mid old back was.origin books (ap (λ (k : Known). k.seen) given) (ap (λ (k : Known). k.origin) given ∙ ap (λ (k : Known). k.origin) was.took_is)
 
   -- the leaves of the book are those that the pass has seen
   back-names : back ≡ has_given took true mid.entries → (state_after w mid.opening mid.entries).leaves ≡ leaves_seen w back
@@ -309,7 +312,7 @@ disk-call book.NoLeaf is = absurd is
 disk-call (book.Stale number) is = absurd is
 disk-call (book.NotOpen number) is = absurd is
 
-free-call : (fault : BookFault) → IsMemoryOrDisk fault → IsCallFault fault
+pub free-call : (fault : BookFault) → IsMemoryOrDisk fault → IsCallFault fault
 free-call fault (inl memory) = subst IsCallFault (sym memory) tt
 free-call fault (inr disk) = disk-call fault disk
 

@@ -5,6 +5,7 @@ pub mod LiveSplits
 pub mod StepLemmas
 pub mod OpenLemmas
 pub mod CallLemmas
+pub mod BatchLemmas
 pub mod SplitLemmas
 pub mod LaneLemmas
 pub mod LanePasses

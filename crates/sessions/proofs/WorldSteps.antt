@@ -1,16 +1,20 @@
 -- The objects behind a lock are a world.
-use Rattle.std.proofs.Common.{◌≡◌, ℕ, Bool, List, [], ◌∷◌, ◌++◌, Option, Some, None, sym, subst, ◌∙◌}
+use Rattle.std.proofs.Common.{◌≡◌, ℕ, ◌+◌, Bool, true, false, cond, List, [], ◌∷◌, ◌++◌, Option, Some, None, sym, subst, ◌∙◌}
 use Rattle.std.specs.Prelude.{⊤, Ok, Err, Result}
 use Rattle.plain_list.specs.declared.ops.Op.{Op}
 use Rattle.plain_list.specs.declared.entries.Entry.{Entry}
 use Rattle.plain_list.specs.declared.entries.Entry.TheVariants.{Call, Begin, Install, Abandon, Fail}
 use Rattle.plain_list.specs.declared.entries.Lost.{Lost}
 use Rattle.plain_list.specs.World.{World, places_of, IsWorld}
-use Rattle.plain_list.specs.Answer.{FitsOp}
+use Rattle.std.specs.List.{AllByRecursion}
+use Rattle.plain_list.specs.Answer.{FitsOp, answer_of, after_of, is_change}
+use Rattle.plain_list.specs.Batch.{batch_calls, batch_fails}
 use Rattle.plain_list.specs.History.{world_after, world_step}
 use Rattle.plain_list.proofs.Histories.{world_after-append}
 use Rattle.plain_list.proofs.Worlds.{IsWorld-after_of}
 use Rattle.disk_trait.specs.Drive.{Drive}
+use Rattle.commit_book.specs.Batches.{RepliesAll, LeavesRefusedAll}
+use Rattle.commit_book.specs.declared.book.batches.BatchDone.{BatchDone}
 use Rattle.commit_book.specs.BookView.{BookView}
 use Rattle.commit_book.specs.Refusals.{LeavesRefused}
 use Rattle.commit_book.specs.declared.faults.BookFault.{BookFault}
@@ -52,6 +56,30 @@ world_more old new e fits opening entries has =
     (λ i. world_after (opening i).world (entries i)) ∙ world_after-append old.opening.world old.entries (e ∷ []) in
     record { world = subst IsWorld (sym after) (IsWorld-step (world_after old.opening.world old.entries) e fits has.world) }
 
+-- several entries, and a book with them
+IsWorld-steps : (world : World) (es : List Entry) → AllByRecursion EntryFits es → IsWorld world → IsWorld (world_after world es)
+IsWorld-steps world [] fits is = is
+IsWorld-steps world (e ∷ es) fits is = IsWorld-steps (world_step world e) es fits.1 (IsWorld-step world e fits.0 is)
+
+world_more_all : {D : Type 0} (old new : BookView D) (es : List Entry) → AllByRecursion EntryFits es → new.opening ≡ old.opening → new.entries ≡ old.entries ++ es → HasWorld old → HasWorld new
+world_more_all old new es fits opening entries has =
+    let after : world_after new.opening.world new.entries ≡ world_after (world_after old.opening.world old.entries) es =
+    (λ i. world_after (opening i).world (entries i)) ∙ world_after-append old.opening.world old.entries es in
+    record { world = subst IsWorld (sym after) (IsWorld-steps (world_after old.opening.world old.entries) es fits has.world) }
+
+calls-fit : (session row : ℕ) (ops : List Op) → AllByRecursion FitsOp ops → AllByRecursion EntryFits (batch_calls session row ops)
+calls-fit session row [] fit = tt
+calls-fit session row (op ∷ ops) fit = (fit.0, calls-fit session (row + 1) ops fit.1)
+
+fails-fit : (cell : ℕ) (world : World) (session row : ℕ) (ops : List Op) → AllByRecursion EntryFits (batch_fails cell world session row ops)
+fails-fit cell world session row [] = tt
+fails-fit cell world session row (op ∷ ops) = go (is_change (answer_of world op)) (fails-fit cell (after_of world op) session (row + 1) ops)
+  where
+    go : (b : Bool) → AllByRecursion EntryFits (batch_fails cell (after_of world op) session (row + 1) ops)
+        → AllByRecursion EntryFits (cond b (Fail cell (lost.Call session row op) ∷ []) [] ++ batch_fails cell (after_of world op) session (row + 1) ops)
+    go true rest = (tt, rest)
+    go false rest = rest
+
 -- a book that a refused call leaves
 pub world_refused : {D : Type 0} (drive : D → Drive) (lost : Lost) (old new : BookView D) (fault : BookFault) → new.opening ≡ old.opening → HasWorld old → LeavesRefused drive lost old new fault → HasWorld new
 world_refused drive lost old new (book.Disk cell) opening has left = world_more old new (Fail cell lost) tt opening left.entries has
@@ -70,6 +98,22 @@ pub update_world : {D : Type 0} (w : ℕ) (drive : D → Drive) (old new : BookV
     → IfErr r (LeavesRefused drive (lost.Call session row op) old new) → new.opening ≡ old.opening → FitsOp op → HasWorld old → HasWorld new
 update_world w drive old new session row op (Ok d) ok err opening fits has = world_more old new (Call session row op) fits opening ok.notes.entries has
 update_world w drive old new session row op (Err fault) ok err opening fits has = world_refused drive (lost.Call session row op) old new fault opening has err
+
+pub batch_world : {D : Type 0} (w : ℕ) (drive : D → Drive) (old new : BookView D) (session row : ℕ) (ops : List Op) (r : Result BatchDone BookFault) → IfOk r (λ d. RepliesAll w old new session row ops d.place d.answers.items d.full)
+    → IfErr r (LeavesRefusedAll drive session row ops old new) → new.opening ≡ old.opening → AllByRecursion FitsOp ops → HasWorld old → HasWorld new
+batch_world w drive old new session row ops (Ok d) ok err opening fit has = world_more_all old new (batch_calls session row ops) (calls-fit session row ops fit) opening ok.entries has
+batch_world w drive old new session row ops (Err (book.Disk cell)) ok err opening fit has =
+    let list = world_after old.opening.world old.entries in world_more_all old new (batch_fails cell list session row ops) (fails-fit cell list session row ops) opening err.entries has
+batch_world w drive old new session row ops (Err (book.Closed cell)) ok err opening fit has = subst HasWorld (sym err) has
+batch_world w drive old new session row ops (Err book.HistoryFull) ok err opening fit has = subst HasWorld (sym err) has
+batch_world w drive old new session row ops (Err book.LogFull) ok err opening fit has = subst HasWorld (sym err) has
+batch_world w drive old new session row ops (Err book.Memory) ok err opening fit has = subst HasWorld (sym err) has
+batch_world w drive old new session row ops (Err (book.Room cells events)) ok err opening fit has = subst HasWorld (sym err) has
+batch_world w drive old new session row ops (Err (book.Splitting number)) ok err opening fit has = subst HasWorld (sym err) has
+batch_world w drive old new session row ops (Err book.Deep) ok err opening fit has = subst HasWorld (sym err) has
+batch_world w drive old new session row ops (Err book.NoLeaf) ok err opening fit has = subst HasWorld (sym err) has
+batch_world w drive old new session row ops (Err (book.Stale number)) ok err opening fit has = subst HasWorld (sym err) has
+batch_world w drive old new session row ops (Err (book.NotOpen number)) ok err opening fit has = subst HasWorld (sym err) has
 
 pub snapshot_world : {I D P : Type 0} (old new : BookView D) (session row : ℕ) (op : Op) (r : Result (Snapshot I P) BookFault) → IfOk r (λ s. Notes old new session row op s.place)
     → IfErr r (λ _. new ≡ old) → new.opening ≡ old.opening → FitsOp op → HasWorld old → HasWorld new

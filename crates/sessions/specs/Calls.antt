@@ -1,5 +1,5 @@
 -- What a call leaves of its pass, and why it is refused.
-use Rattle.std.specs.Prelude.{◌≡◌, ℕ, Bool, true, ◌==◌, ◌&&◌, List, if◌then◌else◌, Option, Some, None, Result, Ok, Err, ⊤}
+use Rattle.std.specs.Prelude.{◌≡◌, ℕ, Bool, true, ◌==◌, ◌&&◌, List, if◌then◌else◌, Option, Some, None, Result, Ok, Err, IfErr, ⊤}
 use mathlib.Core.List.{IsPrefix}
 use Rattle.plain_list.specs.declared.ops.Op.{Op}
 use Rattle.plain_list.specs.declared.ops.Op.TheVariants.{Put, Move, Remove, Find, Within, Near}
@@ -23,18 +23,19 @@ use Rattle.commit_book.specs.Refusals.{IsMemory, IsMemoryOrDisk, first_of, call_
 use Rattle.book_lock.specs.Pass.{Known}
 use Rattle.book_lock.specs.declared.origin.Origin.{Origin}
 use Rattle.sessions.specs.Shared.{start_of}
-use Rattle.sessions.specs.Opens.{leaves_seen}
+use Rattle.sessions.specs.Opens.{leaves_seen, places_seen, listed_by, Opens, OpensRefused}
+use Rattle.sessions.specs.Splits.{SamePass}
 use Rattle.sessions.specs.Steps.{all_parts, cells_at, IsStep, has_added, has_seen}
 use Rattle.sessions.specs.declared.faults.CallFault.{CallFault}
 use Rattle.sessions.specs.declared.faults.CallFault.TheVariants.{Closed, Disk, HistoryFull, LogFull, Memory}
 
--- the cause for which a call is refused behind a history: the book is closed, its history is full, or the call would be a change and its log
--- is full
+-- Why a call is refused after a history, with so many cells in the log. The book is closed, or its history is full, or
+-- the log is full and the call would change an object.
 abbrev pub call_cause : Origin → Op → ℕ → List Entry → Option BookFault
 call_cause origin op cells before =
     first_of (call_refusal before) (if (cells == most_cells) && is_change (answer_of (world_after origin.world before) op) then Some book.LogFull else None)
 
--- a fault that a call may meet
+-- A fault that a call may return.
 abbrev pub IsCallFault : BookFault → Type 0
 IsCallFault (book.Closed cell) = ⊤
 IsCallFault (book.Disk cell) = ⊤
@@ -48,7 +49,7 @@ IsCallFault book.NoLeaf = ⊥
 IsCallFault (book.Stale number) = ⊥
 IsCallFault (book.NotOpen number) = ⊥
 
--- what a call answers then
+-- What a call returns for a fault of the book.
 abbrev pub call_fault : BookFault → CallFault
 call_fault (book.Closed cell) = Closed cell
 call_fault (book.Disk cell) = Disk cell
@@ -62,7 +63,8 @@ call_fault book.NoLeaf = Memory None
 call_fault (book.Stale number) = Memory None
 call_fault (book.NotOpen number) = Memory None
 
--- a fault that is free to come: the drive fails only a change or a find, and only a query may run out of memory at its place
+-- A fault that no cause explains. The drive fails only a change or a find. Only a query may run out of memory after its
+-- entry.
 abbrev pub MayCome : Op → CallFault → Type 0
 MayCome op (Closed cell) = ⊥
 MayCome op (Disk cell) = IsUpdate op
@@ -71,17 +73,17 @@ MayCome op LogFull = ⊥
 MayCome op (Memory None) = ⊤
 MayCome op (Memory (Some place)) = IsQuery op
 
--- the call is refused for this cause; where there is none it is done, or a fault came that is free to come
+-- The call is refused for this cause. If there is no cause, it returns `Ok`, or a fault that may come at any time.
 abbrev pub IsAnswered : Op → Option BookFault → Result Done CallFault → Type 0
 IsAnswered op (Some cause) result = result ≡ Err (call_fault cause)
 IsAnswered op None (Ok done) = ⊤
 IsAnswered op None (Err fault) = MayCome op fault
 
--- the leaf that is to be split next
+-- The leaf to split next, after all that the pass has seen.
 abbrev pub next_full : ℕ → Known → Option (List Bool)
 next_full w pass = full_leaf w pass.origin.bucket (state_after w (start_of pass.origin) pass.seen)
 
--- the leaf that a call tells: queries tell none
+-- The leaf that a call returns. Queries return none.
 abbrev pub told_full : ℕ → Op → Known → Option (List Bool)
 told_full w (Put id at moment) pass = next_full w pass
 told_full w (Move id at moment) pass = next_full w pass
@@ -90,17 +92,18 @@ told_full w (Find id) pass = next_full w pass
 told_full w (Within region) pass = None
 told_full w (Near at k) pass = None
 
--- the place of the last call that was seen, and the answer of one list there
+-- The place is that of the last call that was seen. The answer is that of the plain list there.
 pub record RepliesAt (old new : Known) (op : Op) (before : List Entry) (place : ℕ) (answer : Answer) : Type 0 where
   pub place_is : place ≡ call_count new.seen
   pub answer_is : answer ≡ answer_of (world_after old.origin.world before) op
 
--- the reply, and the leaf that is told
+-- The reply, and the leaf to split next.
 pub record HasDone (w : ℕ) (old new : Known) (op : Op) (before : List Entry) (done : Done) : Type 0 where
   pub replies : RepliesAt old new op before done.place done.answer
   pub full_is : done.full ≡ told_full w op new
 
--- what a call leaves: its entry, or the failure of its append, is the last that was seen, and own; only the append of a change fails
+-- What a call leaves. Its entry, or the failure of its append, is the last one that was seen, and is the pass's own.
+-- Only the append of a change fails.
 abbrev pub CallLeaves : ℕ → ℕ → ℕ → Op → Known → List Entry → Known → Result Done CallFault → Type 0
 CallLeaves w session row op old before new (Ok done) = (new ≡ has_added old before (Call session row op)) × HasDone w old new op before done
 CallLeaves w session row op old before new (Err (Closed cell)) = new ≡ has_seen old before
@@ -110,7 +113,7 @@ CallLeaves w session row op old before new (Err LogFull) = new ≡ has_seen old 
 CallLeaves w session row op old before new (Err (Memory None)) = new ≡ has_seen old before
 CallLeaves w session row op old before new (Err (Memory (Some place))) = (new ≡ has_added old before (Call session row op)) × (place ≡ call_count new.seen)
 
--- A call: the history that was seen under the lock, the cause for which it is refused there, and what it leaves.
+-- A call: the history that the pass saw under the lock, why the call is refused there, and what it leaves.
 pub record Called (w session row : ℕ) (op : Op) (old new : Known) (result : Result Done CallFault) : Type 0 where
   pub before : List Entry
   pub later : IsPrefix old.seen before
@@ -118,23 +121,34 @@ pub record Called (w session row : ℕ) (op : Op) (old new : Known) (result : Re
   pub answered : IsAnswered op (call_cause old.origin op (cells_at old.origin before) before) result
   pub leaves : CallLeaves w session row op old before new result
 
--- the append that failed was that of a change
+-- How often a call opened a bucket, over the leaves and objects that its pass has seen then.
+abbrev pub OpensFor : ℕ → Op → Known → Result Done CallFault → ℕ → ℕ → Type 0
+OpensFor w op new result before now = Opens op (leaves_seen w new) (places_seen new) (listed_by (λ (done : Done). done.answer) result) before now
+
+-- What a call leaves of its pass, and how often it opened a bucket.
+pub record CallEnds (w session row : ℕ) (op : Op) (old new : Known) (before now : ℕ) (result : Result Done CallFault) : Type 0 where
+  pub called : Called w session row op old new result
+  pub opened : OpensFor w op new result before now
+  pub refused : IfErr result (λ fault. OpensRefused fault before now)
+  pub pass : SamePass old new
+
+-- If the append failed, it was that of a change.
 abbrev pub LosesChange : {A : Type 0} → World → Op → Result A BookFault → Type 0
 LosesChange world op (Err (book.Disk cell)) = is_change (answer_of world op) ≡ true
 LosesChange world op _ = ⊤
 
--- a change or a find under the lock
+-- A change or a find under the lock.
 pub record Updates (w session row : ℕ) (op : Op) (old new : Known) (result : Result Done BookFault) : Type 0 where
   pub step : IsStep IsMemoryOrDisk (call_cause old.origin op) (λ done. Call session row op) (λ before. lost.Call session row op) (HasDone w old new op) old new result
   pub loses : LosesChange (world_after old.origin.world step.before) op result
 
--- the leaves of an index that stand for a world
+-- These leaves of an index represent the world at the call.
 pub record Shows (w : ℕ) (leaves : List Leaf) (old new : Known) (before : List Entry) (place : ℕ) : Type 0 where
   pub place_is : place ≡ call_count new.seen
   pub world : IsWorld (world_after old.origin.world before)
   pub stands : Stands leaves (places_of (world_after old.origin.world before)) (leaves_seen w new)
 
--- a query under the lock, which hands out the index as it stands there
+-- A query under the lock, which returns the index as it is there.
 abbrev pub Looks : {I P : Type 0} → (I → List Leaf) → ℕ → ℕ → ℕ → Op → Known → Known → Result (Snapshot I P) BookFault → Type 0
 Looks leaves w session row op old new result =
     IsStep IsMemory (λ cells. call_refusal) (λ shown. Call session row op) (λ before. lost.Call session row op) (λ before shown. Shows w (leaves shown.index) old new before shown.place) old new result

@@ -4,6 +4,7 @@ pub mod Standing
 pub mod Opens
 pub mod Views
 pub mod Calls
+pub mod Batches
 pub mod Splits
 pub mod Lanes
 pub mod Renewals

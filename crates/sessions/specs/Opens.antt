@@ -21,45 +21,45 @@ use Rattle.sessions.specs.Shared.{start_of}
 use Rattle.sessions.specs.declared.faults.CallFault.{CallFault}
 use Rattle.sessions.specs.declared.faults.CallFault.TheVariants.{Closed, Disk, HistoryFull, LogFull, Memory}
 
--- the leaves at the end of the history that a pass has seen
+-- The leaves at the end of the history that a pass has seen.
 abbrev pub leaves_seen : ℕ → Known → List (List Bool)
 leaves_seen w pass = (state_after w (start_of pass.origin) pass.seen).leaves
 
--- where the objects are there
+-- The points of the objects there.
 abbrev pub places_seen : Known → List Placed
 places_seen pass = places_of (world_after pass.origin.world pass.seen)
 
--- how many of these leaves have a region that the box meets
+-- How many of these leaves have a region that the box meets.
 abbrev pub number_met : Region → List (List Bool) → ℕ
 number_met region names = count_by (is_met region) names
 
--- how many of them have a region of which some point may be as near as this
+-- How many of these leaves have a region with a point that may be as near as this.
 abbrev pub number_within : Point → ℕ → List (List Bool) → ℕ
 number_within p reach names = count_by (λ name. nat_le (least_to p name) reach) names
 
--- the objects that an answer lists
+-- The objects that an answer lists.
 abbrev pub listed_in : Answer → Option (List Placed)
 listed_in (Found ms) = Some ms
 listed_in _ = None
 
--- those that a result lists, where there is an answer in it
+-- The objects that a result lists, if it has an answer.
 abbrev pub listed_by : {A E : Type 0} → (A → Answer) → Result A E → Option (List Placed)
 listed_by answer (Ok value) = listed_in (answer value)
 listed_by answer (Err fault) = None
 
--- a box opens only leaves whose region it meets, each at most once, and all of them where objects are listed
+-- A box opens only leaves whose region it meets, each at most once. It opens all of them if objects are listed.
 pub record OpensBox (region : Region) (names : List (List Bool)) (listed : Option (List Placed)) (before now : ℕ) : Type 0 where
   pub most : now ≤ before + number_met region names
   pub exact : IfSome listed (λ ms. now ≡ before + number_met region names)
 
--- The objects nearest to a point open each leaf at most once; where there are k, only leaves of which some point may be as near as the
--- k-th; and at least one where some object is listed.
+-- A search for the nearest objects opens each leaf at most once. If there are k objects, it opens only leaves with a
+-- point that may be as near as the k-th. It opens at least one leaf if some object is listed.
 pub record OpensNearest (p : Point) (k : ℕ) (names : List (List Bool)) (places : List Placed) (listed : Option (List Placed)) (before now : ℕ) : Type 0 where
   pub most : now ≤ before + length names
   pub near : (d : Placed) → k ≤ length places → now ≤ before + number_within p (reach_of p k places d) names
   pub some : IfSome listed (λ ms. 0 < length ms → before < now)
 
--- how often a bucket is opened for an operation, over these leaves and places
+-- How often a bucket is opened for an operation, over these leaves and points.
 abbrev pub Opens : Op → List (List Bool) → List Placed → Option (List Placed) → ℕ → ℕ → Type 0
 Opens (Put id at moment) names places listed before now = now ≡ before
 Opens (Move id at moment) names places listed before now = now ≡ before
@@ -68,7 +68,7 @@ Opens (Find id) names places listed before now = now ≡ before
 Opens (Within region) names places listed before now = OpensBox region names listed before now
 Opens (Near at k) names places listed before now = OpensNearest at k names places listed before now
 
--- a call that was refused opens nothing, unless it is a query whose entry stands and that ran out of memory behind it
+-- A refused call opens no bucket. The one exception is a query that has its entry, and then ran out of memory.
 abbrev pub OpensRefused : CallFault → ℕ → ℕ → Type 0
 OpensRefused (Closed cell) before now = now ≡ before
 OpensRefused (Disk cell) before now = now ≡ before
@@ -77,6 +77,6 @@ OpensRefused LogFull before now = now ≡ before
 OpensRefused (Memory None) before now = now ≡ before
 OpensRefused (Memory (Some place)) before now = ⊤
 
--- the same, of the places that the leaves of an index stand for
+-- How often a bucket is opened, for any points that the leaves of an index represent.
 abbrev pub OpensOf : List Leaf → Op → Option (List Placed) → ℕ → ℕ → Type 0
 OpensOf leaves op listed before now = (places : List Placed) (names : List (List Bool)) → ArePlaces places → Stands leaves places names → Opens op names places listed before now

@@ -1,4 +1,4 @@
--- What settling the splits at the end leaves.
+-- What `settle` leaves, which makes the splits that are due at the end.
 use Rattle.std.specs.Prelude.{◌≡◌, ◌⊎◌, ℕ, Bool, List, [], ◌∷◌, Option, Some, None, Result, Ok, Err, ⊤}
 use Rattle.book_lock.specs.Pass.{Known}
 use Rattle.commit_book.specs.Refusals.{closed_refusal}
@@ -11,17 +11,17 @@ use Rattle.sessions.specs.declared.faults.Settled.TheVariants.{Small, Room}
 use Rattle.sessions.specs.declared.faults.Split.{Split}
 use Rattle.sessions.specs.declared.faults.Split.TheVariants.{Installed, NotSplit}
 
--- the leaf that is to be split next, where the book isn't closed
+-- The leaf to split next, if the book is not closed.
 abbrev pub TellsNext : ℕ → Known → Result (Option (List Bool)) BookFault → Type 0
 TellsNext w pass (Ok full) = (closed_refusal pass.seen ≡ None) × (full ≡ next_full w pass)
 TellsNext w pass (Err fault) = closed_refusal pass.seen ≡ Some fault
 
--- splits of the leaf that is to be split next, one after another
+-- Splits of the leaf that is next, one after another.
 abbrev pub SplitsAll : ℕ → Known → List ℕ → Known → Type 0
 SplitsAll w old [] new = new ≡ old
 SplitsAll w old (number ∷ numbers) new = (name : List Bool) × (mid : Known) × (next_full w old ≡ Some name) × SplitEnds w name old mid (Installed number) × SplitsAll w mid numbers new
 
--- a fault that settling may meet
+-- A fault that `settle` may return.
 abbrev pub IsSettleFault : BookFault → Type 0
 IsSettleFault (book.Closed cell) = ⊤
 IsSettleFault (book.Disk cell) = ⊤
@@ -35,7 +35,7 @@ IsSettleFault book.NoLeaf = ⊥
 IsSettleFault (book.Stale number) = ⊥
 IsSettleFault (book.NotOpen number) = ⊥
 
--- why the split of the next leaf may not be made while nobody else calls: that, or want of room
+-- Why the split of the next leaf may fail while no other caller is there: such a fault, or too little room.
 abbrev pub IsNextFault : BookFault → Type 0
 IsNextFault (book.Closed cell) = ⊤
 IsNextFault (book.Disk cell) = ⊤
@@ -49,26 +49,27 @@ IsNextFault book.NoLeaf = ⊥
 IsNextFault (book.Stale number) = ⊥
 IsNextFault (book.NotOpen number) = ⊥
 
--- what is said of the fault for which a leaf isn't split
+-- The fact holds of the fault, if the leaf was not split.
 abbrev pub SplitFault : (BookFault → Type 0) → Split → Type 0
 SplitFault P (Installed number) = ⊤
 SplitFault P (NotSplit fault) = P fault
 
--- no leaf is told, or there was no room for the split of the next one, or the book is closed or that split met a fault
+-- Why `settle` ended. No leaf was due, or there was no room for the next split, or the book is closed, or the split
+-- failed.
 abbrev pub SettleEnds : ℕ → Known → Known → Result Settled BookFault → Type 0
 SettleEnds w mid new (Ok Small) = TellsNext w mid (Ok None) × (new ≡ mid)
 SettleEnds w mid new (Ok Room) = (name : List Bool) × (next_full w mid ≡ Some name) × (cells : ℕ) × (events : ℕ) × BeginsSplit w name mid new (Err (book.Room cells events))
 SettleEnds w mid new (Err fault) =
     (TellsNext w mid (Err fault) × (new ≡ mid)) ⊎ ((name : List Bool) × (next_full w mid ≡ Some name) × IsSettleFault fault × SplitEnds w name mid new (NotSplit fault))
 
--- Leaves were split while one was told and could be split; then this is why it ended.
+-- Leaves were split as long as one was due and its split succeeded. `ends` says why that stopped.
 pub record Settles (w : ℕ) (old new : Known) (result : Result Settled BookFault) : Type 0 where
   pub numbers : List ℕ
   pub mid : Known
   pub splits : SplitsAll w old numbers mid
   pub ends : SettleEnds w mid new result
 
--- leaves were split so far
+-- The splits so far.
 pub record Settling (w : ℕ) (old new : Known) : Type 0 where
   pub numbers : List ℕ
   pub splits : SplitsAll w old numbers new

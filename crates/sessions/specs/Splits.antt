@@ -1,4 +1,4 @@
--- What a split leaves of its pass, and why one isn't made.
+-- What a split leaves of its pass, and why one is not made.
 use Rattle.std.specs.Prelude.{◌≡◌, ◌⊎◌, ℕ, ◌+◌, Bool, List, [], ◌∷◌, ◌++◌, length, Option, is_some, Result, Ok, Err, IsTrue, ⊤}
 use mathlib.Core.List.{IsPrefix}
 use Rattle.bucket_versions.specs.declared.row.Row.{Row}
@@ -23,43 +23,44 @@ use Rattle.sessions.specs.Steps.{IsStep}
 use Rattle.sessions.specs.declared.faults.Split.{Split}
 use Rattle.sessions.specs.declared.faults.Split.TheVariants.{Installed, NotSplit}
 
--- the state of a store of this origin after a history
+-- The state of a store of this origin after a history.
 abbrev pub state_of : ℕ → Origin → List Entry → State
 state_of w origin before = state_after w (start_of origin) before
 
--- the cause for which the begin of a split is refused behind a history
+-- Why the begin of a split is refused after a history.
 abbrev pub begin_cause : ℕ → Origin → List Bool → ℕ → List Entry → Option BookFault
 begin_cause w origin name cells before =
     first_of (closed_refusal before) (first_of (room_refusal cells (length before)) (leaf_refusal w (state_of w origin before) name))
 
--- a split has the next number
+-- The split has the next number.
 abbrev pub IsNextSplit : ℕ → Origin → List Entry → ℕ → Type 0
 IsNextSplit w origin before number = number ≡ (state_of w origin before).begun + 1
 
--- the number of a split that was begun
+-- The number of a split that was begun.
 abbrev pub number_of : Result SplitTicket BookFault → Result ℕ BookFault
 number_of (Ok ticket) = Ok ticket.number
 number_of (Err fault) = Err fault
 
--- the begin of a split of a leaf, under the lock
+-- The begin of a split of a leaf, under the lock.
 abbrev pub BeginsSplit : ℕ → List Bool → Known → Known → Result ℕ BookFault → Type 0
 BeginsSplit w name old new result =
     IsStep IsMemoryOrDisk (begin_cause w old.origin name) (λ number. Begin number name) (λ before. lost.Begin ((state_of w old.origin before).begun + 1) name) (IsNextSplit w old.origin) old new result
 
--- a step that ends a split, which is open in the history that was seen under the lock: it is refused for no cause of its own
+-- A step that ends a split. The split is open in the history that the pass saw under the lock, so only causes that any
+-- step has refuse it.
 pub record EndsOpen (w number : ℕ) (IsFree : BookFault → Type 0) (e : Entry) (left : Lost) (old new : Known) (result : Result (Unit {0}) BookFault) : Type 0 where
   pub step : IsStep IsFree end_refusal (λ done. e) (λ before. left) (λ before done. ⊤) old new result
   pub is_open : IsTrue (is_some (split_name (state_of w old.origin step.before).splits number))
 
--- the installation of a split that the pass has begun
+-- The install of a split that the pass has begun.
 abbrev pub InstallsSplit : ℕ → ℕ → Known → Known → Result (Unit {0}) BookFault → Type 0
 InstallsSplit w number old new result = EndsOpen w number IsMemoryOrDisk (Install number) (lost.Install number) old new result
 
--- its abandonment, which takes no memory
+-- The abandonment of a split that the pass has begun. It takes no memory.
 abbrev pub AbandonsSplit : ℕ → ℕ → Known → Known → Result (Unit {0}) BookFault → Type 0
 AbandonsSplit w number old new result = EndsOpen w number IsDisk (Abandon number) (lost.Abandon number) old new result
 
--- The pass owns the begin of this split, as the last of its own entries, and these were the rows of the leaf then.
+-- The begin of this split is the last of the pass's own entries. The leaf had these rows then.
 pub record HasBegun (pass : Known) (number : ℕ) (name : List Bool) (base : List Row) : Type 0 where
   pub before : List Entry
   pub own : List ℕ
@@ -68,7 +69,7 @@ pub record HasBegun (pass : Known) (number : ℕ) (name : List Bool) (base : Lis
   pub below : IsBelow (length before) own
   pub rows : HasBaseOf (places_of (world_after pass.origin.world before)) (record { name = name; bucket = as_base base })
 
--- any fault but want of memory
+-- Any fault except a lack of memory.
 abbrev pub IsLasting : BookFault → Type 0
 IsLasting (book.Disk cell) = ⊤
 IsLasting (book.Closed cell) = ⊤
@@ -82,38 +83,38 @@ IsLasting book.NoLeaf = ⊤
 IsLasting (book.Stale number) = ⊤
 IsLasting (book.NotOpen number) = ⊤
 
--- a split is given up for want of memory: it is abandoned, or that is refused
+-- A split is given up because memory ran out. It is abandoned, or its abandonment is refused.
 abbrev pub GivesUp : ℕ → ℕ → Known → Known → BookFault → Type 0
 GivesUp w number old new fault = ((fault ≡ book.Memory) × AbandonsSplit w number old new (Ok tt)) ⊎ AbandonsSplit w number old new (Err fault)
 
--- memory ran out: in the preparation, or in the installation
+-- Memory ran out in the preparation, or in the install.
 abbrev pub RanOut : ℕ → ℕ → Known → Known → Type 0
 RanOut w number mid seen = (seen ≡ mid) ⊎ InstallsSplit w number mid seen (Err book.Memory)
 
--- a split that was begun isn't installed: that is refused, or memory ran out and it is given up
+-- A split that was begun is not installed. The install is refused, or memory ran out and the split is given up.
 abbrev pub NotInstalled : ℕ → ℕ → Known → Known → BookFault → Type 0
 NotInstalled w number mid new fault = (IsLasting fault × InstallsSplit w number mid new (Err fault)) ⊎ ((seen : Known) × RanOut w number mid seen × GivesUp w number seen new fault)
 
--- how a split ends that was begun
+-- How a split ends that was begun.
 abbrev pub BegunEnds : ℕ → ℕ → Known → Known → Split → Type 0
 BegunEnds w number mid new (Installed n) = (n ≡ number) × InstallsSplit w number mid new (Ok tt)
 BegunEnds w number mid new (NotSplit fault) = NotInstalled w number mid new fault
 
--- a split that was begun
+-- The split was begun, and has this number.
 abbrev pub BeginsAs : ℕ → List Bool → Known → Known → ℕ → Type 0
 BeginsAs w name old mid number = BeginsSplit w name old mid (Ok number)
 
--- how a split ends, or why it doesn't begin
+-- How a split ends, or why it does not begin.
 abbrev pub SplitEnds : ℕ → List Bool → Known → Known → Split → Type 0
 SplitEnds w name old new (Installed number) = (mid : Known) × BeginsAs w name old mid number × InstallsSplit w number mid new (Ok tt)
 SplitEnds w name old new (NotSplit fault) =
     BeginsSplit w name old new (Err fault) ⊎ ((number : ℕ) × (mid : Known) × BeginsAs w name old mid number × NotInstalled w number mid new fault)
 
--- it isn't split, for such a fault
+-- The leaf is not split, and the fact holds of the fault.
 abbrev pub IsNotSplit : (BookFault → Type 0) → Split → Type 0
 IsNotSplit P (Installed number) = ⊥
 IsNotSplit P (NotSplit fault) = P fault
 
--- no call changes of a pass more than what it has seen and owns
+-- A call changes only what a pass has seen and owns, and what it has seen only grows.
 abbrev pub SamePass : Known → Known → Type 0
 SamePass old new = IsPrefix old.seen new.seen × (new ≡ record old { seen = new.seen; own = new.own })

@@ -17,19 +17,19 @@ pub use Rattle.book_lock.specs.Rule.{all_parts}
 use Rattle.book_lock.specs.declared.origin.Origin.{Origin}
 use Rattle.sessions.specs.Shared.{first_cells, origin_of}
 
--- the pass has seen this history, and nothing else changed
+-- The pass has seen this history, and nothing else changed.
 abbrev pub has_seen : Known → List Entry → Known
 has_seen old before = record old { seen = before }
 
--- it has seen one entry more, and that is its own
+-- The pass has seen this history and one more entry, which is its own.
 abbrev pub has_added : Known → List Entry → Entry → Known
 has_added old before e = record old { seen = before ++ e ∷ []; own = old.own ++ length before ∷ [] }
 
--- how many cells the log of a store of this origin has after a history
+-- The number of cells in the log of a store of this origin after a history. It is 0 without a log.
 abbrev pub cells_at : Origin → List Entry → ℕ
 cells_at origin before = count_after (first_cells origin) origin.world before
 
--- what a step leaves: the entry that it adds, where it adds one, is the last that was seen, and own
+-- What a step leaves. If it adds an entry, that entry is the last one that was seen, and is the pass's own.
 abbrev pub Leaves : {A : Type 0} → (A → Entry) → (List Entry → Lost) → Known → List Entry → Known → Result A BookFault → Type 0
 Leaves entry lost old before new (Ok value) = new ≡ has_added old before (entry value)
 Leaves entry lost old before new (Err (Disk cell)) = new ≡ has_added old before (Fail cell (lost before))
@@ -44,12 +44,12 @@ Leaves entry lost old before new (Err NoLeaf) = new ≡ has_seen old before
 Leaves entry lost old before new (Err (Stale number)) = new ≡ has_seen old before
 Leaves entry lost old before new (Err (NotOpen number)) = new ≡ has_seen old before
 
--- what is said of the value that a step answers
+-- The fact holds of the value that a step returns.
 abbrev pub Says : {A : Type 0} → (A → Type 0) → Result A BookFault → Type 0
 Says P (Ok value) = P value
 Says P (Err fault) = Unit {0}
 
--- A step under the lock: the history that was seen there, the cause for which the step is refused at so many cells, and what it leaves.
+-- A step under the lock: the history that the pass saw there, why the step is refused, and what it leaves.
 pub record IsStep {A : Type 0} (IsFree : BookFault → Type 0) (cause : ℕ → List Entry → Option BookFault) (entry : A → Entry) (lost : List Entry → Lost) (P : List Entry → A → Type 0) (old new : Known) (result : Result A BookFault) : Type 0 where
   pub before : List Entry
   pub later : IsPrefix old.seen before
@@ -58,7 +58,8 @@ pub record IsStep {A : Type 0} (IsFree : BookFault → Type 0) (cause : ℕ → 
   pub says : Says (P before) result
   pub leaves : Leaves entry lost old before new result
 
--- A book was taken from the lock: its entries are all that the pass has seen then, which owns the ends of the splits that it alone began.
+-- A book was taken from the lock. Its entries are all that the pass has seen. If the pass alone began a split, it owns
+-- the end of that split.
 pub record WasTaken {D : Type 0} (drive : D → Drive) (b : BookView D) (old took : Known) : Type 0 where
   pub entries : b.entries ≡ took.seen
   pub origin : origin_of drive b ≡ old.origin
@@ -69,7 +70,7 @@ pub record WasTaken {D : Type 0} (drive : D → Drive) (b : BookView D) (old too
   pub ends : OwnsEnds took.seen took.own
   pub below : IsBelow (length took.seen) took.own
 
--- whether a step has added an entry: where it was done, or its append failed
+-- Whether a step has added an entry: it was done, or its append failed.
 abbrev pub has_entry : {A : Type 0} → Result A BookFault → Bool
 has_entry (Ok value) = true
 has_entry (Err (Disk cell)) = true
@@ -84,12 +85,12 @@ has_entry (Err NoLeaf) = false
 has_entry (Err (Stale number)) = false
 has_entry (Err (NotOpen number)) = false
 
--- a value with these entries may be given back by a pass that holds the lock, with an entry more or as it was
+-- A pass that holds the lock may give a book with these entries back. The book has one more entry or is unchanged.
 abbrev pub MayGive : Known → Bool → List Entry → Type 0
 MayGive pass true entries = (e : Entry) × (entries ≡ pass.seen ++ e ∷ []) × MayNote pass.seen pass.own e
 MayGive pass false entries = entries ≡ pass.seen
 
--- the pass after that
+-- The pass after it gave the book back.
 abbrev pub has_given : Known → Bool → List Entry → Known
 has_given pass true entries = record pass { seen = entries; own = pass.own ++ length pass.seen ∷ []; holds = false }
 has_given pass false entries = record pass { holds = false }

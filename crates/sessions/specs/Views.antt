@@ -1,4 +1,4 @@
--- What a snapshot of the index stands for.
+-- What a snapshot of the index represents.
 use Rattle.std.specs.Prelude.{◌≡◌, ℕ, List}
 use Rattle.plain_list.specs.History.{world_after, call_count}
 use Rattle.plain_list.specs.World.{IsWorld}
@@ -7,7 +7,8 @@ use Rattle.index_layer.specs.Stands.{Stands}
 use Rattle.book_lock.specs.Pass.{Known}
 use Rattle.sessions.specs.Opens.{leaves_seen, places_seen}
 
--- leaves that stand for the objects after all that a pass has seen, in the leaves of that time, and the place of the last call of that
+-- These leaves represent the objects after all that a pass has seen, with the leaf names of that time. The place is that
+-- of the last call that was seen.
 pub record IsView (w : ℕ) (leaves : List Leaf) (place : ℕ) (pass : Known) : Type 0 where
   pub place_is : place ≡ call_count pass.seen
   pub world : IsWorld (world_after pass.origin.world pass.seen)

@@ -11,19 +11,19 @@ use thiserror::Error;
 /// Why a call is refused.
 #[derive(Clone, Copy, Debug, PartialEq, Eq, Error)]
 pub enum CallFault {
-    /// An earlier append failed at this cell: the store takes no more calls.
+    /// An earlier append failed at this cell. The store takes no more calls.
     #[error("the append of record {cell} has failed")]
     Closed { cell: u64 },
-    /// The append of this cell failed in this call.
+    /// The append of this cell failed in this call. The store is closed.
     #[error("the drive failed in the append of record {cell}")]
     Disk { cell: u64 },
-    /// The history has as many entries as it may have.
+    /// The history has no room for the call's entries.
     #[error("the history is full")]
     HistoryFull,
-    /// The log has as many cells as it may have, and the call would be a change.
+    /// The log has no room, and the call would be a change.
     #[error("the log is full")]
     LogFull,
-    /// Memory ran out. A query's entry stands at the place, where there is one.
+    /// Memory ran out. If there is a place, the history has the query's entry there, and only its answer is missing.
     #[error("out of memory")]
     Memory { place: Option<u64> },
 }
@@ -31,22 +31,22 @@ pub enum CallFault {
 /// How a split ended.
 #[derive(Clone, Copy, Debug, PartialEq, Eq)]
 pub enum Split {
-    /// The leaf's children stand in its place.
+    /// The leaf's children have replaced it.
     Installed { number: u64 },
-    /// The leaf is as it was.
+    /// The leaf is unchanged.
     NotSplit(BookFault),
 }
 
-/// How the splits at the end were settled.
+/// Why `settle` stopped.
 #[derive(Clone, Copy, Debug, PartialEq, Eq)]
 pub enum Settled {
-    /// No leaf is over the size and free to be split.
+    /// No leaf is too large and free to be split.
     Small,
-    /// There are too many cells or entries for a further split.
+    /// There are too many cells or entries for one more split.
     Room,
 }
 
-/// What a call answers to a fault of the book.
+/// What a call returns for a fault of the book.
 pub(crate) fn call_fault(fault: BookFault) -> CallFault
     requires { IsCallFault fault }
     ensures { result ≡ call_fault fault }
@@ -61,7 +61,7 @@ pub(crate) fn call_fault(fault: BookFault) -> CallFault
     }
 }
 
-/// Tells that a fault isn't want of memory.
+/// Returns the fault, which is not a lack of memory.
 pub(crate) fn lasting(fault: BookFault) -> BookFault
     requires { IsLasting fault }
     ensures fault { result ≡ fault }
@@ -70,7 +70,7 @@ pub(crate) fn lasting(fault: BookFault) -> BookFault
     fault
 }
 
-/// Tells that a fault is one that settling may meet.
+/// Returns the fault, which `settle` may return.
 pub(crate) fn settle_fault(fault: BookFault) -> BookFault
     requires { IsSettleFault fault }
     ensures fault { result ≡ fault }
@@ -79,7 +79,7 @@ pub(crate) fn settle_fault(fault: BookFault) -> BookFault
     fault
 }
 
-/// Whether a step of a book has added an entry: where it was done, or its append failed.
+/// Whether a step of a book has added an entry: it was done, or its append failed.
 pub(crate) fn has_entry<T>(answer: &Result<T, BookFault>) -> bool
     ensures { result ≡ has_entry answer.now }
 {

@@ -1,13 +1,24 @@
-//! Calls of many sessions on one book, from threads of their own: one history, and splits of leaves while they run.
+//! Calls of many sessions on one book, from their own threads: one history, and splits of leaves meanwhile.
 //!
-//! Contracts see a `Store` as the lock that it is, and a caller by its pass: what it has seen of the one history, and which entries of
-//! that are its own. `Store::call` adds one entry and gives the answer of one plain list at its place; `Store::split_once` begins a
-//! split and ends it; `Store::run_lanes` plays the rows of several sessions, each row by one call; `Store::settle` makes the splits that
-//! are due at the end. Each refusal has its cause over the history that was seen under the lock. `Store::close` gives the book, whose
-//! history is what the last pass has seen, and whose log goes on from the opening (`Start`); `Store::renew` makes a store of it whose
-//! history is empty. `Store::room` tells how much room there is, `Store::world` copies the objects, and `Store::view` returns the index.
+//! Contracts see a `Store` as its lock, and a caller by its pass: what it has seen of the one history, and which of those
+//! entries are its own.
 //!
-//! Not here: what a step does to the book (`commit_book`), how the lock works (`book_lock`), and what rows come from (`csv_rows`).
+//! | Call | What it does |
+//! |---|---|
+//! | `call` | adds one entry, and returns the plain list's answer at its place |
+//! | `apply` | executes many changes and finds as one step |
+//! | `split_once` | begins a split of a leaf and ends it |
+//! | `run_lanes` | plays the rows of several sessions, each row by one call |
+//! | `settle` | makes the splits that are due at the end |
+//! | `room`, `world`, `view` | return the room that is left, a copy of the objects, or a share of the index |
+//! | `renew` | makes a store of the same objects with an empty history |
+//! | `close` | returns the book, whose history is what the last pass has seen |
+//!
+//! Each refusal has its cause over the history that the pass saw under the lock. The log of a returned book continues
+//! from the opening that the store began with (`Start`).
+//!
+//! Not here: what a step does to the book (`commit_book`), how the lock works (`book_lock`), where rows come from
+//! (`csv_rows`).
 #![tactic(auto)]
 
 mod faults;

@@ -1,7 +1,7 @@
 //! What is done outside the lock: reaching a gate's points and preparing splits.
 //!
-//! Each requires that the pass at hand is free: it doesn't hold the lock. `queries` requires the same for an answer. A function of the store that
-//! gets a gate makes `Points` of it at once, and the functions that it calls can reach the gate only by these.
+//! Each function requires a pass that doesn't hold the lock. `queries` requires the same for an answer. A function of the
+//! store that gets a gate makes `Points` of it first. The functions that it calls can reach the gate only through them.
 ghost use Rattle.std.specs.Prelude.{◌≡◌, false, IfOk};
 ghost use Rattle.std.specs.Arc.{arc_value};
 ghost use Rattle.commit_book.specs.SplitSteps.{CanPrepare};

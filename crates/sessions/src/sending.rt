@@ -1,4 +1,4 @@
-//! A store may be shared by threads, and a pass or a lane sent between them, where the index and the drive may be sent.
+//! Threads may share a store, and send a pass or a lane to each other, if the index and the drive may be sent.
 use crate::shared::SharedBook;
 use crate::start::Start;
 use crate::store::{Lane, Store};

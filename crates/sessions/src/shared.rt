@@ -1,23 +1,25 @@
 //! A book behind a lock.
-ghost use Rattle.std.specs.Prelude.{◌≡◌, ◌+◌, ◌<◌, ◌^◌, Some, None, IfOk, IfErr, OnOk};
+ghost use Rattle.std.specs.Prelude.{◌≡◌, ◌+◌, ◌<◌, ◌≤◌, ◌^◌, length, Some, None, IfOk, IfErr, OnOk};
+ghost use Rattle.std.specs.List.{AllByRecursion};
 ghost use Rattle.zorder.specs.Key.{IsPoint};
 ghost use Rattle.plain_list.specs.Answer.{FitsOp};
-ghost use Rattle.plain_list.specs.World.{places_of, IsWorld};
+ghost use Rattle.plain_list.specs.World.{IsWorld};
 ghost use Rattle.plain_list.specs.History.{call_count, world_after};
+ghost use Rattle.plain_list.specs.Size.{full_leaf};
 ghost use Rattle.plain_list.specs.State.{state_after};
 ghost use Rattle.plain_list.specs.declared.entries.Lost.{Lost};
-ghost use Rattle.index_layer.specs.Stands.{Stands};
 ghost use Rattle.commit_book.specs.IsBook.{IsBook, AreBooks};
-ghost use Rattle.commit_book.specs.Refusals.{IsRefusedBy, IsDisk, IsMemory, IsMemoryOrDisk, LeavesRefused, call_refusal, update_refusal, begin_refusal, install_refusal, abandon_refusal};
+ghost use Rattle.commit_book.specs.Refusals.{IsRefusedBy, IsDisk, IsMemory, IsMemoryOrDisk, LeavesRefused, call_refusal, update_refusal, begin_refusal, prepared_refusal, abandon_refusal};
 ghost use Rattle.commit_book.specs.Answers.{IsUpdate, IsQuery, Notes, Replies, is_still_since};
-ghost use Rattle.commit_book.specs.BookView.{StandsAfter};
+ghost use Rattle.commit_book.specs.Batches.{RepliesAll, LeavesRefusedAll, batch_refusal};
+ghost use Rattle.commit_book.specs.BookView.{StandsAfter, next_number};
 ghost use Rattle.commit_book.specs.Renewal.{renewed, renew_refusal, room_of};
 ghost use Rattle.commit_book.specs.SplitSteps.{Begins, CanPrepare, Installs, Abandons};
-ghost use Rattle.sessions.specs.Shared.{HasWorld, StartsAs, TellsFull};
+ghost use Rattle.sessions.specs.Shared.{HasWorld, StandsBefore, StartsAs, TellsFull};
 
 use crate::start::Start;
 use book_lock::Held;
-use commit_book::{Book, BookFault, Done, RenewFault, Room, Snapshot};
+use commit_book::{BatchDone, Book, BookFault, Done, RenewFault, Room, Snapshot};
 use disk_trait::LogDisk;
 use index_layer::Index;
 use plain_list::{Entries, Op, World};
@@ -26,10 +28,10 @@ use std::alloc::{AllocFailed, Global};
 use std::marker::{Model, PhantomData};
 use zorder::{Memory, Name, Point, Region, coordinates_fit};
 
-/// A book whose objects are a world, and whose log was opened over a drive of which this is known.
+/// A book whose objects are a world. `O` is what is known of the drive over which its log was opened.
 #[derive(Drop)]
 pub struct SharedBook<I: Index, D: LogDisk, O: Start> {
-    /// In a place of its own: what comes out of the lock and goes back is a pointer.
+    /// Behind a pointer, so that only the pointer moves out of the lock and back.
     book: Box<Book<I, D>>,
     start: PhantomData<O>,
 }
@@ -63,7 +65,7 @@ impl<I: Index, D: LogDisk, O: Start> Held for SharedBook<I, D, O> {
 }
 
 impl<I: Index, D: LogDisk, O: Start> SharedBook<I, D, O> {
-    /// For want of memory the book comes back.
+    /// If memory runs out, the call returns the book.
     pub(crate) fn of(alloc: Global, book: Book<I, D>) -> Result<SharedBook<I, D, O>, Book<I, D>>
         requires world { IsWorld (world_after book.opening.world book.entries) }
         requires start { StartsAs D.drive O.unlogged O.is book.log }
@@ -87,7 +89,7 @@ impl<I: Index, D: LogDisk, O: Start> SharedBook<I, D, O> {
         Box::into_inner(self.book)
     }
 
-    /// The book goes on with an empty history, and of its log another start is known. Where it isn't renewed it comes back.
+    /// Gives the book an empty history, and another start. If the book is not renewed, the call returns it.
     pub(crate) fn renew<N: Start>(
         self,
         alloc: Global,
@@ -113,7 +115,7 @@ impl<I: Index, D: LogDisk, O: Start> SharedBook<I, D, O> {
         }
     }
 
-    /// As of the book.
+    /// As the book's call of this name.
     pub(crate) fn room(&self) -> Room
         ensures room { result ≡ room_of self.now }
         ensures book { IsBook D.drive I.WIDTH self.now }
@@ -130,7 +132,15 @@ impl<I: Index, D: LogDisk, O: Start> SharedBook<I, D, O> {
         Ok(content.world)
     }
 
-    /// The leaf that is to be split next, or that the book is closed.
+    /// The leaf to split next, or `None` if no leaf is due.
+    pub(crate) fn full(&self) -> Option<Name>
+        ensures full { result ≡ full_leaf I.WIDTH self.now.bucket (state_after I.WIDTH self.now.opening self.now.entries) }
+        ensures book { IsBook D.drive I.WIDTH self.now }
+    {
+        self.book.full()
+    }
+
+    /// The leaf to split next, or the fault of a closed book.
     pub(crate) fn next_full(&self) -> Result<Option<Name>, BookFault>
         ensures next { TellsFull I.WIDTH self.now result }
         ensures book { IsBook D.drive I.WIDTH self.now }
@@ -141,7 +151,7 @@ impl<I: Index, D: LogDisk, O: Start> SharedBook<I, D, O> {
         }
     }
 
-    /// As of the book.
+    /// As the book's call of this name.
     pub(crate) fn update(&mut self, session: u8, row: u32, op: &Op) -> Result<Done, BookFault>
         requires { IsUpdate op.now }
         ensures ok { IfOk result (λ d. Replies I.WIDTH self.old self.new session row op.now d.place d.answer d.full) }
@@ -153,7 +163,26 @@ impl<I: Index, D: LogDisk, O: Start> SharedBook<I, D, O> {
         self.book.update(session, row, op)
     }
 
-    /// As of the book.
+    /// As the book's call of this name.
+    pub(crate) fn update_all(
+        &mut self,
+        alloc: Global,
+        session: u8,
+        row: u32,
+        ops: &[Op],
+    ) -> Result<BatchDone, BookFault>
+        requires updates { AllByRecursion IsUpdate ops.now }
+        requires rows { row + length ops.now ≤ 2 ^ 32 }
+        ensures ok { IfOk result (λ d. RepliesAll I.WIDTH self.old self.new session row ops.now d.place d.answers.items d.full) }
+        ensures refused { IsRefusedBy IsMemoryOrDisk (batch_refusal self.old ops.now) result }
+        ensures err { IfErr result (LeavesRefusedAll D.drive session row ops.now self.old self.new) }
+        ensures book { AreBooks D.drive I.WIDTH self.old self.new }
+    {
+        told_all(ops);
+        self.book.update_all(alloc, session, row, ops)
+    }
+
+    /// As the book's call of this name.
     pub(crate) fn snapshot(
         &mut self,
         session: u8,
@@ -162,7 +191,7 @@ impl<I: Index, D: LogDisk, O: Start> SharedBook<I, D, O> {
     ) -> Result<Snapshot<I>, BookFault>
         requires { IsQuery op.now }
         ensures ok { IfOk result (λ s. Notes self.old self.new session row op.now s.place) }
-        ensures index { IfOk result (λ s. Stands (I.leaves s.index) (places_of (world_after self.old.opening.world self.old.entries)) (state_after I.WIDTH self.new.opening self.new.entries).leaves) }
+        ensures index { IfOk result (λ s. StandsBefore I.WIDTH self.old self.new (I.leaves s.index)) }
         ensures world { HasWorld self.old }
         ensures refused { IsRefusedBy IsMemory (call_refusal self.old.entries) result }
         ensures err { IfErr result (λ _. self.new ≡ self.old) }
@@ -172,7 +201,7 @@ impl<I: Index, D: LogDisk, O: Start> SharedBook<I, D, O> {
         self.book.snapshot(session, row, op)
     }
 
-    /// As of the book.
+    /// As the book's call of this name.
     pub(crate) fn note(&mut self, session: u8, row: u32, op: &Op) -> Result<u64, BookFault>
         requires { IsQuery op.now }
         ensures ok { IfOk result (λ place. Notes self.old self.new session row op.now place) }
@@ -184,7 +213,7 @@ impl<I: Index, D: LogDisk, O: Start> SharedBook<I, D, O> {
         self.book.note(session, row, op)
     }
 
-    /// As of the book.
+    /// As the book's call of this name.
     pub(crate) fn glance(&self) -> Result<I, Memory>
         ensures index { IfOk result (λ index. StandsAfter I.WIDTH self.now (I.leaves index)) }
         ensures world { HasWorld self.now }
@@ -206,7 +235,7 @@ impl<I: Index, D: LogDisk, O: Start> SharedBook<I, D, O> {
         })
     }
 
-    /// As of the book.
+    /// As the book's call of this name.
     pub(crate) fn is_still_since(&self, events: u64) -> bool
         ensures { result ≡ is_still_since events self.now.entries }
     {
@@ -215,29 +244,29 @@ impl<I: Index, D: LogDisk, O: Start> SharedBook<I, D, O> {
 }
 
 impl<I: Index, D: LogDisk, O: Start> SharedBook<I, D, O> {
-    /// As of the book.
+    /// As the book's call of this name.
     pub(crate) fn begin(&mut self, name: &Name) -> Result<SplitTicket, BookFault>
         ensures ok { IfOk result (λ t. Begins I.WIDTH self.old self.new name.now t) }
         ensures ticket { IfOk result (λ t. CanPrepare I.WIDTH t) }
         ensures refused { IsRefusedBy IsMemoryOrDisk (begin_refusal I.WIDTH self.old name.now) result }
-        ensures err { IfErr result (LeavesRefused D.drive (Lost.Begin ((state_after I.WIDTH self.old.opening self.old.entries).begun + 1) name.now) self.old self.new) }
+        ensures err { IfErr result (LeavesRefused D.drive (Lost.Begin (next_number I.WIDTH self.old) name.now) self.old self.new) }
         ensures book { AreBooks D.drive I.WIDTH self.old self.new }
     {
         self.book.begin(name)
     }
 
-    /// As of the book.
+    /// As the book's call of this name.
     pub(crate) fn install(&mut self, prepared: &Prepared) -> Result<(), BookFault>
         requires { prepared.now.width ≡ I.WIDTH }
         ensures ok { OnOk result (Installs I.WIDTH self.old self.new prepared.now.number prepared.now.name) }
-        ensures refused { IsRefusedBy IsMemoryOrDisk (install_refusal I.WIDTH self.old prepared.now.number prepared.now.name prepared.now.base) result }
+        ensures refused { IsRefusedBy IsMemoryOrDisk (prepared_refusal I.WIDTH self.old prepared.now) result }
         ensures err { IfErr result (LeavesRefused D.drive (Lost.Install prepared.now.number) self.old self.new) }
         ensures book { AreBooks D.drive I.WIDTH self.old self.new }
     {
         self.book.install(prepared)
     }
 
-    /// As of the book.
+    /// As the book's call of this name.
     pub(crate) fn abandon(&mut self, number: u64) -> Result<(), BookFault>
         ensures ok { OnOk result (Abandons self.old self.new number) }
         ensures refused { IsRefusedBy IsDisk (abandon_refusal I.WIDTH self.old number) result }
@@ -248,7 +277,7 @@ impl<I: Index, D: LogDisk, O: Start> SharedBook<I, D, O> {
     }
 }
 
-// Tells that the numbers of an operation are of 64 and 32 bits.
+// The numbers of an operation have 64 and 32 bits. This function only says so to proofs.
 fn told(op: Op)
     ensures { FitsOp op }
 {
@@ -259,6 +288,15 @@ fn told(op: Op)
         Op::Find { id } => told_id(id),
         Op::Within { region } => told_region(region),
         Op::Near { at, k: _ } => coordinates_fit(at),
+    }
+}
+
+// The same for several operations.
+fn told_all(ops: &[Op])
+    ensures { AllByRecursion FitsOp ops.now }
+{
+    for op in ops {
+        told(*op);
     }
 }
 

@@ -1,16 +1,16 @@
-//! What is known of the drive of a log as it was at the opening.
+//! What is known of a log's drive at the opening.
 use std::marker::Brand;
 
-/// A fact of the drive over which a book's log was opened, or of a book without a log. It holds of the book that is put into a store and of
-/// the one that comes out, so the second is known to go on from the opening of the first. `Brand` stands for no fact, or for one that a
-/// proof picks at a call.
+/// A fact of the drive over which a book's log was opened, or of a book without a log. It holds of the book that enters a
+/// store and of the book that the store returns. So the returned book is known to continue from the same opening. `Brand`
+/// is no fact, or one that a proof picks at a call.
 pub trait Start {
     ghost use Rattle.disk_trait.specs.Drive.{Drive};
 
-    /// Of a book without a log.
+    /// The fact of a book without a log.
     ghost unlogged: { Type 0 };
 
-    /// Of the drive.
+    /// The fact of the drive.
     ghost is: { Drive → Type 0 };
 }
 

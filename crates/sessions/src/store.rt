@@ -4,6 +4,7 @@ ghost use Rattle.plain_list.specs.World.{IsWorld};
 ghost use Rattle.sessions.specs.Shared.{origin_of, StartsAs};
 ghost use Rattle.sessions.specs.Steps.{all_parts, MayGive, WasTaken, has_entry, has_given};
 
+mod batches;
 mod calls;
 mod lanes;
 mod passes;
@@ -39,7 +40,8 @@ impl<I: Index, D: LogDisk, O: Start> Model for Store<I, D, O> {
 }
 
 impl<I: Index, D: LogDisk, O: Start> Store<I, D, O> {
-    /// A store of a book without entries, and the pass that has all parts of it. For want of memory the book comes back.
+    /// A store of a book without entries, and the pass that has all parts of it. If memory runs out, the call returns the
+    /// book.
     pub fn new(
         alloc: Global,
         book: Book<I, D>,

@@ -2,8 +2,8 @@
 ghost use Rattle.std.specs.Prelude.{◌≡◌, false, IfErr};
 ghost use Rattle.plain_list.specs.Answer.{IsValid};
 ghost use Rattle.commit_book.specs.Answers.{IsUpdate, IsQuery};
-ghost use Rattle.sessions.specs.Calls.{Updates, Looks, Called};
-ghost use Rattle.sessions.specs.Opens.{leaves_seen, places_seen, listed_by, Opens, OpensRefused};
+ghost use Rattle.sessions.specs.Calls.{CallEnds, Called, Looks, OpensFor, Updates};
+ghost use Rattle.sessions.specs.Opens.{OpensRefused};
 ghost use Rattle.sessions.specs.Splits.{SamePass};
 
 use super::Store;
@@ -53,7 +53,7 @@ impl<I: Index, D: LogDisk, O: Start> Store<I, D, O> {
         answer
     }
 
-    // Notes a query under the lock, and gives the index as it stands there.
+    // Notes a query under the lock, and returns the index as it is there.
     fn look<R: Wait>(
         &self,
         rt: &R,
@@ -72,7 +72,7 @@ impl<I: Index, D: LogDisk, O: Start> Store<I, D, O> {
         answer
     }
 
-    // Answers a query, outside the lock, from the index as it stood at its place.
+    // Answers a query outside the lock, from the index as it was at its place.
     fn query<R: Wait, G: Gate, L: Ledger>(
         &self,
         rt: &R,
@@ -87,7 +87,7 @@ impl<I: Index, D: LogDisk, O: Start> Store<I, D, O> {
         requires query { IsQuery request.now.op }
         requires valid { IsValid request.now.op }
         ensures called { Called I.WIDTH request.now.session request.now.row request.now.op pass.old pass.new result }
-        ensures opened { Opens request.now.op (leaves_seen I.WIDTH pass.new) (places_seen pass.new) (listed_by (λ done. done.answer) result) steps.old steps.new }
+        ensures opened { OpensFor I.WIDTH request.now.op pass.new result steps.old steps.new }
         ensures refused { IfErr result (λ fault. OpensRefused fault steps.old steps.new) }
     {
         let shown = match self.look(rt, pass, request) {
@@ -95,7 +95,7 @@ impl<I: Index, D: LogDisk, O: Start> Store<I, D, O> {
             Err(fault) => return Err(call_fault(fault)),
         };
         if is_long(&request.op) {
-            // Another lane has the store meanwhile.
+            // So that another lane may have the store meanwhile.
             self.lock.rouse();
         }
         points.reach(GatePoint::Taken, request.session, pass);
@@ -124,7 +124,7 @@ impl<I: Index, D: LogDisk, O: Start> Store<I, D, O> {
         requires off { pass.old.holds ≡ false }
         requires valid { IsValid request.now.op }
         ensures called { Called I.WIDTH request.now.session request.now.row request.now.op pass.old pass.new result }
-        ensures opened { Opens request.now.op (leaves_seen I.WIDTH pass.new) (places_seen pass.new) (listed_by (λ done. done.answer) result) steps.old steps.new }
+        ensures opened { OpensFor I.WIDTH request.now.op pass.new result steps.old steps.new }
         ensures refused { IfErr result (λ fault. OpensRefused fault steps.old steps.new) }
     {
         match request.op {
@@ -149,10 +149,7 @@ impl<I: Index, D: LogDisk, O: Start> Store<I, D, O> {
         requires lock { pass.old.lock ≡ self.now }
         requires off { pass.old.holds ≡ false }
         requires valid { IsValid op.now }
-        ensures called { Called I.WIDTH session row op.now pass.old pass.new result }
-        ensures opened { Opens op.now (leaves_seen I.WIDTH pass.new) (places_seen pass.new) (listed_by (λ done. done.answer) result) steps.old steps.new }
-        ensures refused { IfErr result (λ fault. OpensRefused fault steps.old steps.new) }
-        ensures pass { SamePass pass.old pass.new }
+        ensures { CallEnds I.WIDTH session row op.now pass.old pass.new steps.old steps.new result }
     {
         pass.will_read(is_read(op));
         let request = Request {
@@ -165,8 +162,8 @@ impl<I: Index, D: LogDisk, O: Start> Store<I, D, O> {
         answer
     }
 
-    /// Answers a call, and notes it in the one history. A query is computed outside the lock, on a snapshot. The gate's points are
-    /// reached outside the lock too.
+    /// Answers a call, and notes it in the one history. A query is answered outside the lock, from a snapshot of the
+    /// index. The gate's points are reached outside the lock too.
     pub fn call<R: Wait, G: Gate, L: Ledger>(
         &self,
         rt: &R,
@@ -182,7 +179,7 @@ impl<I: Index, D: LogDisk, O: Start> Store<I, D, O> {
         requires off { pass.old.holds ≡ false }
         requires valid { IsValid op.now }
         ensures called { Called I.WIDTH session row op.now pass.old pass.new result }
-        ensures opened { Opens op.now (leaves_seen I.WIDTH pass.new) (places_seen pass.new) (listed_by (λ done. done.answer) result) steps.old steps.new }
+        ensures opened { OpensFor I.WIDTH op.now pass.new result steps.old steps.new }
         ensures refused { IfErr result (λ fault. OpensRefused fault steps.old steps.new) }
         ensures pass { SamePass pass.old pass.new }
     {

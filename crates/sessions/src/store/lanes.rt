@@ -31,7 +31,7 @@ pub struct KeptRow {
     /// The number of the row's call among the calls of the history, from 1.
     pub place: u64,
     pub answer: Answer,
-    /// How the split ended that was tried behind the call.
+    /// How the split ended that was tried after the call. It is `None` if no leaf was full.
     pub split: Option<Split>,
 }
 
@@ -41,14 +41,14 @@ pub struct Lane<I: Index, D: LogDisk, O: Start> {
     pub pass: Pass<SharedBook<I, D, O>>,
     /// The number of each row, and what it asks.
     pub rows: Vec<(u32, Op)>,
-    /// The rows that were answered, from the first on.
+    /// The rows that were answered, in their order.
     pub kept: Vec<KeptRow>,
-    /// Why the next row wasn't answered.
+    /// Why the next row was not answered.
     pub fault: Option<CallFault>,
 }
 
 impl<I: Index, D: LogDisk, O: Start> Store<I, D, O> {
-    // Tries the split of the leaf that a call has told.
+    // Tries the split of the leaf that a call has returned.
     fn try_split<R: Wait, G: Gate>(
         &self,
         rt: &R,
@@ -69,7 +69,8 @@ impl<I: Index, D: LogDisk, O: Start> Store<I, D, O> {
         }
     }
 
-    // Calls a lane's next row, tries the split that it tells, and keeps both answers. Tells whether the row was answered.
+    // Calls a lane's next row, tries the split of the leaf that it returns, and keeps both results. Returns whether the
+    // row was answered.
     fn play_row<R: Wait, G: Gate, L: Ledger>(
         &self,
         rt: &R,
@@ -114,7 +115,7 @@ impl<I: Index, D: LogDisk, O: Start> Store<I, D, O> {
         true
     }
 
-    // Plays a lane's next rows: a run of queries at once, or one row. Gives the row that is to be played next, unless one was refused.
+    // Plays a lane's next rows: a run of queries at once, or one row. Returns the next row to play, unless one was refused.
     fn play_next<R: Wait, G: Gate, L: Ledger>(
         &self,
         rt: &R,
@@ -171,7 +172,7 @@ impl<I: Index, D: LogDisk, O: Start> Store<I, D, O> {
         }
     }
 
-    // Plays one lane, and lets another one go on.
+    // Plays one lane, and then wakes another one.
     fn play_lane<R: Wait, G: Gate>(&self, rt: &R, alloc: Global, lane: &mut Lane<I, D, O>, gate: &G)
         requires ready { IsReadyLane self.now lane.old }
         ensures { PlaysLane I.WIDTH lane.old lane.new }
@@ -185,7 +186,7 @@ impl<I: Index, D: LogDisk, O: Start> Store<I, D, O> {
 }
 
 impl<I: Index + Send, D: LogDisk + Send, O: Start + Send> Store<I, D, O> {
-    /// Plays the rows of each lane, each lane in a thread of its own. Where a thread can't be started its lane is played by the caller.
+    /// Plays the rows of each lane, each lane in its own thread. If a thread can't be started, the caller plays that lane.
     pub fn run_lanes<R: Threads + Wait + Sync, G: Gate + Sync>(
         &self,
         rt: &R,
@@ -209,7 +210,7 @@ impl<I: Index + Send, D: LogDisk + Send, O: Start + Send> Store<I, D, O> {
     }
 }
 
-/// Pushes into memory that was taken before.
+/// Pushes a row, for which there is room.
 pub(super) fn push_within(kept: &mut Vec<KeptRow>, row: KeptRow)
     requires { vec_len kept.old < vec_capacity kept.old }
     ensures items { kept.new.items ≡ kept.old.items ++ row ∷ [] }

@@ -1,10 +1,11 @@
-//! A store that goes on with an empty history, the room that is left in one, and the objects as they are, copied or as a view.
+//! A store with an empty history made of another one, the room that is left in one, and its objects, copied or as a view.
 ghost use Rattle.std.specs.Prelude.{◌≡◌, ℕ, length, false, IfOk, IfErr};
 ghost use Rattle.book_lock.specs.Own.{times, once_below};
 ghost use Rattle.plain_list.specs.History.{world_after};
 ghost use Rattle.plain_list.specs.World.{IsWorld};
 ghost use Rattle.commit_book.specs.BookView.{BookView};
 ghost use Rattle.commit_book.specs.Renewal.{renewed};
+ghost use Rattle.sessions.specs.Calls.{next_full};
 ghost use Rattle.sessions.specs.Renewals.{room_at, store_refusal, refusal_of, ComesOut, IsRenewed, IsBack, StartsBack};
 ghost use Rattle.sessions.specs.Runs.{HasLooked};
 ghost use Rattle.sessions.specs.Shared.{StartsAs};
@@ -21,28 +22,28 @@ use index_layer::Index;
 use plain_list::{Entries, World};
 use std::alloc::Global;
 use std::sync::Wait;
-use zorder::Memory;
+use zorder::{Memory, Name};
 
-/// A store whose history begins anew.
+/// A store with an empty history.
 pub struct Renewed<I: Index, D: LogDisk, O: Start> {
     pub store: Store<I, D, O>,
-    /// The pass that has all parts of it.
+    /// The pass that has all parts of the store.
     pub pass: Pass<SharedBook<I, D, O>>,
     /// The history of the store before.
     pub entries: Entries,
 }
 
-/// Why a store wasn't renewed, and its book. The store has ended.
+/// Why a store was not renewed, and its book. The store has ended.
 #[derive(Drop)]
 pub enum NotRenewed<I: Index, D: LogDisk> {
-    /// The book as it was.
+    /// The unchanged book.
     Kept { book: Book<I, D>, cause: RenewFault },
-    /// Memory ran out for the new lock: the book is renewed, and these are the entries of the history before.
+    /// Memory ran out for the new lock. The book is renewed, and these are the entries of the history before.
     Memory { book: Book<I, D>, entries: Entries },
 }
 
 impl<I: Index, D: LogDisk, O: Start> Store<I, D, O> {
-    /// How much room there is, in a history that the pass sees.
+    /// How many more entries and log records there is room for, after all that the pass has seen.
     pub fn room<R: Wait>(&self, rt: &R, pass: &mut Pass<SharedBook<I, D, O>>) -> Room
         requires lock { pass.old.lock ≡ self.now }
         requires off { pass.old.holds ≡ false }
@@ -55,7 +56,21 @@ impl<I: Index, D: LogDisk, O: Start> Store<I, D, O> {
         room
     }
 
-    /// Copies the objects as they are, behind all that the pass has seen. Who calls meanwhile waits.
+    /// Returns the leaf to split next after all that the pass has seen, or `None` if no leaf is due.
+    pub fn full<R: Wait>(&self, rt: &R, pass: &mut Pass<SharedBook<I, D, O>>) -> Option<Name>
+        requires lock { pass.old.lock ≡ self.now }
+        requires off { pass.old.holds ≡ false }
+        ensures looked { HasLooked pass.old pass.new }
+        ensures full { result ≡ next_full I.WIDTH pass.new }
+    {
+        let book = self.take(rt, pass);
+        let full = book.full();
+        self.put_back(pass, book, false);
+        full
+    }
+
+    /// Copies all objects, as of a place after everything that the pass has seen. Other callers wait until the copy is
+    /// done.
     pub fn world<R: Wait>(
         &self,
         rt: &R,
@@ -73,7 +88,7 @@ impl<I: Index, D: LogDisk, O: Start> Store<I, D, O> {
         world
     }
 
-    // Returns the index and the place of the last call, and lets another lane go on.
+    // Returns the index and the place of the last call, and wakes another lane.
     fn look_at<R: Wait>(
         &self,
         rt: &R,
@@ -91,8 +106,8 @@ impl<I: Index, D: LogDisk, O: Start> Store<I, D, O> {
         view
     }
 
-    /// Returns the index after all that the pass has seen, which no later call changes, and the place of the last call there. It adds no
-    /// entry, and other callers wait only until two pointers are copied.
+    /// Returns the index after all that the pass has seen, and the place of the last call there. No later call changes
+    /// that index. The call adds no entry, and other callers wait only until two pointers are copied.
     pub fn view<R: Wait>(
         &self,
         rt: &R,
@@ -107,8 +122,8 @@ impl<I: Index, D: LogDisk, O: Start> Store<I, D, O> {
         self.look_at(rt, pass)
     }
 
-    /// Ends the store, and begins one with an empty history where that one's ends: the objects, the leaves and the log stay where they are.
-    /// A split that is still open is given up. Of the new start is asked what holds of the log as it is then, whatever book comes out.
+    /// Ends the store, and makes one with an empty history of the same objects, leaves and log. A split that is still open
+    /// is given up. The new start has to hold of the log as it is then, for each book that the store may return.
     pub fn renew<N: Start>(
         self,
         alloc: Global,

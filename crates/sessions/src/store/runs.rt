@@ -23,16 +23,16 @@ use std::sync::ledger::Ledger;
 use step_count::Steps;
 use zorder::Memory;
 
-/// Fewer queries are played one by one.
+/// The least queries of a run. Fewer are played one by one.
 const LEAST_RUN: usize = 16;
 
-/// More are several runs, so that the lock isn't held for long.
+/// The most queries of a run. More are several runs, so that the lock is not held for long.
 const MOST_RUN: usize = 64;
 
-/// How many rows are played one by one after a run for nothing.
+/// How many rows are played one by one after a run that was discarded.
 const LEAST_WAIT: u32 = 64;
 
-/// And after several of them, at most.
+/// The most rows that are played one by one after several discarded runs.
 const MOST_WAIT: u32 = 4096;
 
 /// How a run of queries ended.
@@ -40,18 +40,18 @@ const MOST_WAIT: u32 = 4096;
 pub(super) enum Run {
     /// None of its rows was played.
     Left,
-    /// Its rows in front of this one were.
+    /// Its rows before this one were played.
     Played { next: usize },
     /// One of them was refused.
     Refused,
 }
 
-/// How long a lane plays its rows one by one, since others have changed what its last runs were answered from.
+/// How long a lane plays its rows one by one, because others changed the objects while its last runs were answered.
 #[derive(Drop)]
 pub(super) struct Pace {
-    /// How many rows are left to be played so.
+    /// How many rows are still to be played one by one.
     rows: u32,
-    /// How many there are after the next run for nothing.
+    /// How many rows follow the next discarded run.
     next: u32,
 }
 
@@ -63,7 +63,7 @@ impl Pace {
         }
     }
 
-    // Whether the next row may begin a run. Where it may not, it is played.
+    // Whether the next row may begin a run. If not, it counts as played one by one.
     fn may_run(&mut self) -> bool {
         if self.rows == 0 {
             return true;
@@ -72,7 +72,7 @@ impl Pace {
         false
     }
 
-    // A run was played, or was for nothing.
+    // A run was played or discarded.
     fn learn(&mut self, was_played: bool) {
         if was_played {
             self.next = LEAST_WAIT;
@@ -83,14 +83,14 @@ impl Pace {
     }
 }
 
-/// An index as it stands behind so many entries.
+/// An index as it is after so many entries.
 #[derive(Drop)]
 struct Sight<I: Index> {
     index: I,
     events: u64,
 }
 
-// Behind the last of the queries that stand from a row on, or behind so many of them as a run has at most.
+// The end of the run of queries that begins at a row. A run has `MOST_RUN` queries at most.
 fn end_of_run(rows: &[(u32, Op)], i: usize) -> usize
     requires row { i < length rows.now }
     requires valid { (k : ℕ) (d : ℕ × Op) → k < length rows.now → IsValid (slice_index_or rows.now k d).1 }
@@ -112,8 +112,8 @@ fn is_query(op: &Op) -> bool
     matches!(op, Op::Within { .. } | Op::Near { .. })
 }
 
-// Answers a lane's queries from a row on, up to another or to the first for which memory runs out, and gives the row behind the last that
-// was answered.
+// Answers a lane's queries from a row on, up to another row or to the first for which memory runs out. Returns the row
+// after the last that was answered.
 fn answer_rows<I: Index, D: LogDisk, O: Start, G: Gate, L: Ledger>(
     alloc: Global,
     lane: &mut Lane<I, D, O>,
@@ -147,7 +147,7 @@ fn answer_rows<I: Index, D: LogDisk, O: Start, G: Gate, L: Ledger>(
     end
 }
 
-// Tells the hook of rows whose answers stand.
+// Reaches the gate's point for each row whose answer is kept.
 fn reach_all<G: Gate, V>(points: &Points<'_, G>, session: u8, rows: usize, pass: &Pass<V>)
     requires free { pass.now.holds ≡ false }
 {
@@ -157,7 +157,7 @@ fn reach_all<G: Gate, V>(points: &Points<'_, G>, session: u8, rows: usize, pass:
 }
 
 impl<I: Index, D: LogDisk, O: Start> Store<I, D, O> {
-    // Gives the index as it stands, without an entry, and lets another lane go on.
+    // Returns the index as it is, without an entry, and wakes another lane.
     fn see<R: Wait>(&self, rt: &R, pass: &mut Pass<SharedBook<I, D, O>>) -> Result<Sight<I>, Memory>
         requires lock { pass.old.lock ≡ self.now }
         requires off { pass.old.holds ≡ false }
@@ -175,7 +175,7 @@ impl<I: Index, D: LogDisk, O: Start> Store<I, D, O> {
         })
     }
 
-    // Notes answered queries under the lock, and places what is kept of them, up to the first that is refused.
+    // Notes answered queries under the lock and sets their places, up to the first that is refused.
     fn note_rows(
         &self,
         lane: &mut Lane<I, D, O>,
@@ -209,7 +209,8 @@ impl<I: Index, D: LogDisk, O: Start> Store<I, D, O> {
         }
     }
 
-    // Notes answered queries in one hold of the lock, if the objects are still those of their index, and else forgets them.
+    // Notes answered queries in one hold of the lock, if the objects are still those of their index. Otherwise it discards
+    // the answers.
     fn keep_rows<R: Wait>(
         &self,
         rt: &R,
@@ -241,7 +242,7 @@ impl<I: Index, D: LogDisk, O: Start> Store<I, D, O> {
         }
     }
 
-    // Plays a run of a lane's queries, where there is one.
+    // Plays a run of a lane's queries, if there is one.
     pub(super) fn play_run<R: Wait, G: Gate, L: Ledger>(
         &self,
         rt: &R,
@@ -271,7 +272,7 @@ impl<I: Index, D: LogDisk, O: Start> Store<I, D, O> {
         run
     }
 
-    // Answers a lane's queries from a row on, up to another, and notes them at once.
+    // Answers a lane's queries from a row on, up to another row, and notes them at once.
     fn run_rows<R: Wait, G: Gate, L: Ledger>(
         &self,
         rt: &R,

@@ -1,4 +1,4 @@
-//! The splits that are due at the end, when nobody else calls.
+//! The splits that are due at the end, when there is no other caller.
 ghost use Rattle.std.specs.Prelude.{◌≡◌, false, None, Some};
 ghost use Rattle.commit_book.specs.Refusals.{closed_refusal};
 ghost use Rattle.sessions.specs.Calls.{next_full};
@@ -21,7 +21,7 @@ use std::sync::Wait;
 use zorder::Name;
 
 impl<I: Index, D: LogDisk, O: Start> Store<I, D, O> {
-    // The leaf that is to be split next, or that the book is closed.
+    // The leaf to split next, or the fault of a closed book.
     fn next<R: Wait>(
         &self,
         rt: &R,
@@ -39,7 +39,7 @@ impl<I: Index, D: LogDisk, O: Start> Store<I, D, O> {
         answer
     }
 
-    // Splits the leaf that is to be split next.
+    // Splits the leaf that is next.
     fn split_next<R: Wait, G: Gate>(
         &self,
         rt: &R,
@@ -60,7 +60,8 @@ impl<I: Index, D: LogDisk, O: Start> Store<I, D, O> {
         self.split_at(rt, alloc, pass, 0, name, points)
     }
 
-    /// Splits the leaf that is to be split next, until there is none, or no room for its split. It reaches the gate's points as lane 0.
+    /// Splits the leaves that are due, one after another, until none is due or there is no room for a split. It reaches
+    /// the gate's points as lane 0.
     pub fn settle<R: Wait, G: Gate>(
         &self,
         rt: &R,

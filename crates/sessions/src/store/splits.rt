@@ -79,7 +79,7 @@ impl<I: Index, D: LogDisk, O: Start> Store<I, D, O> {
         answer
     }
 
-    // Abandons a split for want of memory.
+    // Abandons a split because memory ran out.
     fn give_up<R: Wait>(&self, rt: &R, pass: &mut Pass<SharedBook<I, D, O>>, number: u64) -> Split
         requires lock { pass.old.lock ≡ self.now }
         requires off { pass.old.holds ≡ false }
@@ -92,7 +92,7 @@ impl<I: Index, D: LogDisk, O: Start> Store<I, D, O> {
         }
     }
 
-    // Installs a split that the pass has begun. Where memory runs out, it is abandoned.
+    // Installs a split that the pass has begun. If memory runs out, the split is abandoned.
     fn finish<R: Wait>(
         &self,
         rt: &R,
@@ -113,7 +113,7 @@ impl<I: Index, D: LogDisk, O: Start> Store<I, D, O> {
         }
     }
 
-    // Prepares a split that the pass has begun, and installs it. Where memory runs out, it is abandoned.
+    // Prepares a split that the pass has begun, and installs it. If memory runs out, the split is abandoned.
     fn carry_out<R: Wait, G: Gate>(
         &self,
         rt: &R,
@@ -160,8 +160,8 @@ impl<I: Index, D: LogDisk, O: Start> Store<I, D, O> {
         self.carry_out(rt, alloc, pass, session, &ticket, points)
     }
 
-    /// Splits a leaf: begins under the lock, prepares outside it, and installs under it. Where memory runs out between, the split is
-    /// abandoned.
+    /// Splits a leaf. It begins the split under the lock, prepares the children outside it, and installs them under it. If
+    /// memory runs out after the begin, the split is abandoned.
     pub fn split_once<R: Wait, G: Gate>(
         &self,
         rt: &R,

@@ -4,15 +4,17 @@ use Rattle.sessions.specs.Calls.{Called}
 use Rattle.sessions.proofs.CallLemmas.{called-same}
 use Rattle.sessions.proofs.store.Store.call_at.Goals as goal
 
-pub returns-clause-pass : goal.returns-clause-pass
-returns-clause-pass g c = called-same g.I.Index.WIDTH c.args.session c.args.row c.args.op.now c.args.pass.now c.answer-answer.new.pass c.answer-answer.result
-    (subst (λ (pass : Known). Called g.I.Index.WIDTH c.args.session c.args.row c.args.op.now pass c.answer-answer.new.pass c.answer-answer.result) c.will_read.ensures c.answer-answer.ensures.called)
-
-pub returns-clause-opened : goal.returns-clause-opened
-returns-clause-opened g c = c.answer-answer.ensures.opened
-
-pub returns-clause-refused : goal.returns-clause-refused
-returns-clause-refused g c = c.answer-answer.ensures.refused
+pub returns : goal.returns
+returns g c =
+    let new = c.answer-answer.new.pass in
+    let called : Called g.I.Index.WIDTH c.args.session c.args.row c.args.op.now c.args.pass.now new c.answer-answer.result =
+    subst (λ (pass : Known). Called g.I.Index.WIDTH c.args.session c.args.row c.args.op.now pass new c.answer-answer.result) c.will_read.ensures c.answer-answer.ensures.called in
+    record {
+      called = called;
+      opened = c.answer-answer.ensures.opened;
+      refused = c.answer-answer.ensures.refused;
+      pass = called-same g.I.Index.WIDTH c.args.session c.args.row c.args.op.now c.args.pass.now new c.answer-answer.result called;
+    }
 
 pub reach-requires : goal.reach-requires
 reach-requires g c = record {
