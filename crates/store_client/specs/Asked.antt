@@ -11,19 +11,20 @@ use Rattle.sessions.specs.Splits.{SamePass}
 use Rattle.store_client.specs.Caller.{Caller, has_asked}
 use Rattle.store_client.specs.declared.client.Reply.{Reply}
 
--- what stands behind a call: the split of the leaf that it told, where it was answered, and nothing where it was refused
+-- What comes after a call: the split of the leaf that it returned, or nothing if it was refused.
 abbrev pub Follows : ℕ → Known → Known → Result Done CallFault → Result Reply CallFault → Type 0
 Follows w mid new (Ok done) (Ok reply) = (reply.place ≡ done.place) × (reply.answer ≡ done.answer) × Tries w done.full mid new reply.split
 Follows w mid new (Err fault) (Err told) = (told ≡ fault) × (new ≡ mid)
 Follows w mid new (Ok done) (Err told) = ⊥
 Follows w mid new (Err fault) (Ok reply) = ⊥
 
--- the place of the last call that was answered: of this one, where it was
+-- The place of the last call that was answered. It is the place of this call, if this call was answered.
 abbrev pub last_place : ℕ → Result Reply CallFault → ℕ
 last_place before (Ok reply) = reply.place
 last_place before (Err fault) = before
 
--- What a client promises of a call: what the store told, and the pass after that; the split behind it; and nothing else changed.
+-- What a client promises of a call: what the store returned, the pass after that, and the split after it. Nothing else
+-- changed.
 pub record Asked (w : ℕ) (op : Op) (old new : Caller) (result : Result Reply CallFault) : Type 0 where
   pub mid : Known
   pub told : Result Done CallFault
@@ -32,7 +33,7 @@ pub record Asked (w : ℕ) (op : Op) (old new : Caller) (result : Result Reply C
   pub client : new ≡ has_asked old new.pass (last_place old.place result)
   pub same : SamePass old.pass new.pass
 
--- the same, and how often a bucket was opened for it
+-- The same, and how often a bucket was opened for the call.
 pub record AskedCounted (w : ℕ) (op : Op) (old new : Caller) (before now : ℕ) (result : Result Reply CallFault) : Type 0 where
   pub asked : Asked w op old new result
   pub opened : Opens op (leaves_seen w asked.mid) (places_seen asked.mid) (listed_by (λ (reply : Reply). reply.answer) result) before now

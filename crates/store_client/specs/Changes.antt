@@ -8,8 +8,8 @@ use Rattle.plain_list.specs.Changes.{change_of}
 use Rattle.store_client.specs.declared.answers.Report.{Report}
 use Rattle.store_client.specs.declared.answers.Report.TheVariants.{New, From, Stale, Full}
 
--- what a report of an object at a point has changed that was told this, whose last call had this place: the same as that call, which was a
--- put or a move, whatever its moment
+-- What a report with this answer has changed. Its last call has this place, and was a put or a move. The report has
+-- changed what that call changed.
 abbrev pub report_change : ℕ → ℕ → Point → Report → Option Change
 report_change place id at New = change_of place (Put id at 0) Done
 report_change place id at (From kept) = change_of place (Move id at 0) (Moved kept)

@@ -1,5 +1,6 @@
 pub mod Caller
 pub mod Asked
+pub mod Batches
 pub mod Verbs
 pub mod Teams
 pub mod Objects

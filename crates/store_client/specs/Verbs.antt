@@ -1,4 +1,4 @@
--- What each verb may be answered, and what it promises.
+-- The answers of each verb, and what it promises.
 use Rattle.std.specs.Prelude.{◌≡◌, ◌⊎◌, ℕ, List, [], ◌∷◌, Option, Some, None, Result, Ok, Err, ⊤}
 use Rattle.zorder.specs.declared.points.Point.{Point}
 use Rattle.zorder.specs.declared.points.Placed.{Placed}
@@ -20,7 +20,7 @@ use Rattle.store_client.specs.declared.answers.Listed.TheVariants as listed
 use Rattle.store_client.specs.declared.answers.Report.{Report}
 use Rattle.store_client.specs.declared.answers.Report.TheVariants as report
 
--- the answer of the list that each of a verb's stands for
+-- The plain list's answer for each answer of a verb.
 abbrev pub put_answer : PutReply → Answer
 put_answer put.Done = answer.Done
 put_answer (put.Present kept) = answer.Present kept
@@ -46,7 +46,7 @@ listed_answer (listed.Many n) = answer.Many n
 abbrev pub nearest_answer : List Placed → Answer
 nearest_answer objects = answer.Found objects
 
--- those that each operation has
+-- The answers that each operation may have.
 abbrev pub IsOfPut : Answer → Type 0
 IsOfPut answer.Done = ⊤
 IsOfPut (answer.Present kept) = ⊤
@@ -78,24 +78,24 @@ abbrev pub IsOfNear : Answer → Type 0
 IsOfNear (answer.Found objects) = ⊤
 IsOfNear _ = ⊥
 
--- A verb is a call of a client: its answer stands for the list's.
+-- A verb is a call of a client, and its answer is the plain list's.
 abbrev pub AskedAs : {A : Type 0} → (A → Answer) → ℕ → Op → Caller → Caller → Result A CallFault → Type 0
 AskedAs tell w op old new (Ok x) = (place : ℕ) × (split : Option Split) × Asked w op old new (Ok (record { place = place; answer = tell x; split = split }))
 AskedAs tell w op old new (Err fault) = Asked w op old new (Err fault)
 
 module _ (w id : ℕ) (at : Point) (moment : ℕ) where
-  -- a move, and a put
+  -- A move, and a put.
   abbrev pub Moves : Caller → Caller → Result MoveReply CallFault → Type 0
   Moves old new result = AskedAs move_answer w (Move id at moment) old new result
 
   abbrev pub Puts : Caller → Caller → Result PutReply CallFault → Type 0
   Puts old new result = AskedAs put_answer w (Put id at moment) old new result
 
-  -- a put of an object that wasn't there for a move
+  -- A put of an object that was not there for the move before.
   abbrev pub PutsBehind : Caller → Caller → Result PutReply CallFault → Type 0
   PutsBehind old new result = (between : Caller) × Moves old between (Ok move.Absent) × Puts between new result
 
-  -- an object that wasn't there for a move, and was there for the put behind it: so often
+  -- The object was not there for a move, but it was there for the put after it.
   abbrev pub Misses : Caller → Caller → Type 0
   Misses old new = (kept : Stamped) × PutsBehind old new (Ok (put.Present kept))
 
@@ -103,7 +103,7 @@ module _ (w id : ℕ) (at : Point) (moment : ℕ) where
   MissesAll [] old new = new ≡ old
   MissesAll (kept ∷ more) old new = (mid : Caller) × MissesAll more old mid × PutsBehind mid new (Ok (put.Present kept))
 
-  -- how a report ends: by a move, or by a put behind one
+  -- How a report ends: by a move, or by a put after one.
   abbrev pub ReportEnds : Caller → Caller → Result Report CallFault → Type 0
   ReportEnds old new (Ok (report.From from)) = Moves old new (Ok (move.From from))
   ReportEnds old new (Ok (report.Stale kept)) = Moves old new (Ok (move.Stale kept))
@@ -111,25 +111,25 @@ module _ (w id : ℕ) (at : Point) (moment : ℕ) where
   ReportEnds old new (Ok report.Full) = PutsBehind old new (Ok put.Full)
   ReportEnds old new (Err fault) = Moves old new (Err fault) ⊎ PutsBehind old new (Err fault)
 
-  -- one try: it ends, or it misses
+  -- One try ends the report, or it misses.
   abbrev pub TriesOnce : Caller → Caller → Result (Option Report) CallFault → Type 0
   TriesOnce old new (Ok (Some told)) = ReportEnds old new (Ok told)
   TriesOnce old new (Ok None) = Misses old new
   TriesOnce old new (Err fault) = ReportEnds old new (Err fault)
 
-  -- so many tries have missed so far
+  -- These tries have missed so far.
   pub record Missing (old new : Caller) : Type 0 where
     pub missed : List Stamped
     pub misses : MissesAll missed old new
 
-  -- A report: tries that missed, the newest first, and the one that ended.
+  -- A report: the tries that missed, the newest first, and the try that ended it.
   pub record Reports (old new : Caller) (result : Result Report CallFault) : Type 0 where
     pub missed : List Stamped
     pub mid : Caller
     pub misses : MissesAll missed old mid
     pub ends : ReportEnds mid new result
 
--- what a try says of the answer to its put
+-- What a try returns for the answer to its put.
 abbrev pub put_report : Result PutReply CallFault → Result (Option Report) CallFault
 put_report (Ok put.Done) = Ok (Some report.New)
 put_report (Ok put.Full) = Ok (Some report.Full)

@@ -1,4 +1,4 @@
-//! What each verb may be answered.
+//! The answers of each verb.
 ghost use Rattle.std.specs.Prelude.{◌≡◌};
 ghost use Rattle.store_client.specs.Verbs.{put_answer, move_answer, gone_answer, at_answer, listed_answer, nearest_answer, IsOfPut, IsOfMove, IsOfRemove, IsOfFind, IsOfWithin, IsOfNear, put_report};
 
@@ -8,11 +8,11 @@ use sessions::CallFault;
 /// The answers to a put.
 #[derive(Clone, Copy, Debug, PartialEq, Eq)]
 pub enum PutReply {
-    /// The object stands where it was put.
+    /// The object is new, and is where it was put.
     Done,
-    /// It was there already, and stays where it was.
+    /// There is an object with this id already. It stays where it is.
     Present(Stamped),
-    /// There are as many objects as there may be.
+    /// The store has as many objects as it may have.
     Full,
 }
 
@@ -21,17 +21,17 @@ pub enum PutReply {
 pub enum MoveReply {
     /// The object was moved from here.
     From(Stamped),
-    /// It has a later moment than the move's, and stays where it was.
+    /// The object has a later moment than the move. It stays where it is.
     Stale(Stamped),
     /// There is no such object.
     Absent,
 }
 
-/// The answers to a question for all objects in a box.
+/// The answers to a query for all objects in a box.
 #[derive(Drop)]
 pub enum Listed {
     All(PlacedList),
-    /// There are too many for a list: so many.
+    /// There are too many for a list. This is their number.
     Many(u64),
 }
 
@@ -40,11 +40,11 @@ pub enum Listed {
 pub enum Report {
     /// The object is new.
     New,
-    /// It was moved from here.
+    /// The object was moved from here.
     From(Stamped),
-    /// It has a later moment, and stays where it was.
+    /// The object has a later moment than the report. It stays where it is.
     Stale(Stamped),
-    /// It is new, and there are as many objects as there may be.
+    /// There is no such object, and the store has as many objects as it may have.
     Full,
 }
 
@@ -115,7 +115,7 @@ pub(crate) fn nearest_reply(answer: Answer) -> PlacedList
     }
 }
 
-/// What a report is told by its put: nothing where that was too late.
+/// The answer of a report whose put returned this. It is `None` if another caller has put the object before.
 pub(crate) fn put_report(told: Result<PutReply, CallFault>) -> Result<Option<Report>, CallFault>
     ensures { result ≡ put_report told }
 {

@@ -9,7 +9,8 @@ use plain_list::{Change, Op};
 use zorder::Point;
 
 impl Reply {
-    /// What the call has changed, if this is what it asked: nothing if it was a query, or if its answer says that nothing changed.
+    /// What the call has changed, if `op` is its operation. A query has changed nothing, nor has a call whose answer says
+    /// so.
     pub fn change(&self, op: &Op) -> Option<Change>
         ensures { result ≡ change_of self.now.place op.now self.now.answer }
     {
@@ -18,7 +19,8 @@ impl Reply {
 }
 
 impl Report {
-    /// What the report with this answer has changed: of which object, where it is now, and the place of its last call (`Client::place`).
+    /// What the report with this answer has changed. The arguments are those of the report, and `place` is the place of its
+    /// last call (`Client::place`).
     pub fn change(&self, place: u64, id: u64, at: Point) -> Option<Change>
         ensures { result ≡ report_change place id at self.now }
     {

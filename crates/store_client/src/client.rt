@@ -26,9 +26,10 @@ use std::sync::ledger::{Blank, Ledger};
 use step_count::Steps;
 use zorder::{Memory, Name};
 
-/// A caller of a store. It has a pass, and keeps its session and the number of its next row, which stand beside each of its calls in the
-/// history: they tell calls apart for who reads that, and mean nothing else. A session may be any number, 0 too, and several clients may
-/// have the same one. Rows count all calls from 0, refused ones too; behind the last number that fits they stay there.
+/// A caller of a store. It has a pass, a session and the number of its next row. The history has the session and the row
+/// with each call, so that a reader of the history can tell calls apart. They have no other meaning. A session may be any
+/// number, and several clients may have the same one. Rows count all calls from 0, refused ones too. After the last number
+/// that fits, the number stays the same.
 pub struct Client<'s, I: Index, D: LogDisk, O: Start> {
     pub(crate) store: &'s Store<I, D, O>,
     pub(crate) pass: Pass<SharedBook<I, D, O>>,
@@ -48,18 +49,19 @@ impl<'s, I: Index, D: LogDisk, O: Start> Model for Client<'s, I, D, O> {
     ghost invariant = { λ c. IsFree c.store.now c.pass };
 }
 
-/// An answer, its place, and how the split ended that was tried behind it.
+/// An answer, its place, and how the split ended that was tried after it.
 #[derive(Drop)]
 pub struct Reply {
     /// The number of the call among the calls of the history, from 1.
     pub place: u64,
     pub answer: Answer,
-    /// Where the call told that a leaf is full.
+    /// `Some` if the call found a full leaf.
     pub split: Option<Split>,
 }
 
-// Tries the split of the leaf that a call has told.
-fn try_split<I: Index, D: LogDisk, O: Start, R: Wait>(
+/// Tries the split of the leaf that a call has returned, if it has returned one. It is what a `Client` does after each
+/// call, for callers of another kind.
+pub fn try_split<I: Index, D: LogDisk, O: Start, R: Wait>(
     rt: &R,
     alloc: Global,
     store: &Store<I, D, O>,
@@ -78,7 +80,7 @@ fn try_split<I: Index, D: LogDisk, O: Start, R: Wait>(
 }
 
 impl<'s, I: Index, D: LogDisk, O: Start> Client<'s, I, D, O> {
-    /// A client of a store, with a pass of it. The first one has the pass with all parts; the others come from it by `another`.
+    /// A client of a store, with a pass of it. The first client has the pass with all parts. `another` makes the others.
     pub fn new(
         store: &'s Store<I, D, O>,
         alloc: Global,
@@ -98,7 +100,7 @@ impl<'s, I: Index, D: LogDisk, O: Start> Client<'s, I, D, O> {
         }
     }
 
-    /// The pass of a client that asks no more. Once it has all parts, `Store::close` takes it.
+    /// Ends the client, and returns its pass. `Store::close` takes a pass that has all parts.
     pub fn into_pass(self) -> Pass<SharedBook<I, D, O>>
         ensures pass { result ≡ self.entry.pass }
         ensures off { result.holds ≡ false }
@@ -114,22 +116,25 @@ impl<'s, I: Index, D: LogDisk, O: Start> Client<'s, I, D, O> {
         pass
     }
 
-    /// The place of the last call that was answered, and 0 where none was: of a report, that of its move, or of the put behind that.
+    /// The place of the last call that was answered, or 0 if none was. A report's place is that of its move, or of the put
+    /// after it. A batch's place is that of its last call.
     pub fn place(&self) -> u64
         ensures { result ≡ self.now.place }
     {
         self.place
     }
 
-    /// Says whether it is one of a batch: a caller that does nothing but calls, one after another, and whose answers may take long. Over a
-    /// store without a log such a one naps for milliseconds where it finds another one at it. A new client is prompt: it is let in soon.
+    /// Says whether the client is a batch caller, which makes one call after another and can wait for its answers. Over a
+    /// store without a log, a batch caller sleeps for some milliseconds if the lock is taken. A new client is prompt: it is
+    /// let in soon.
     pub fn in_batch(&mut self, is_batch: bool)
         ensures { self.new ≡ self.old }
     {
         self.pass.in_batch(is_batch);
     }
 
-    /// How many more entries the history takes, and records the log, where there is one: behind all that the client has seen.
+    /// How many more entries the history takes, and how many more records the log takes, if there is a log. Both are as of
+    /// a place after all that the client has seen.
     pub fn room<R: Wait>(&mut self, rt: &R) -> Room
         ensures looked { HasLooked self.old.pass self.new.pass }
         ensures room { result ≡ room_at self.new.pass.origin self.new.pass.seen }
@@ -139,8 +144,8 @@ impl<'s, I: Index, D: LogDisk, O: Start> Client<'s, I, D, O> {
         store.room(rt, &mut self.pass)
     }
 
-    /// Whether leaves aren't split any more, since there are so many entries, or records where there is a log: then it is time to renew the
-    /// store, or to rotate it. Behind all that the client has seen.
+    /// Whether there are too many entries or log records for a further split. Then it is time to renew the store, or to
+    /// rotate it. The answer is as of a place after all that the client has seen.
     pub fn is_near_end<R: Wait>(&mut self, rt: &R) -> bool
         ensures looked { HasLooked self.old.pass self.new.pass }
         ensures near { result ≡ is_near_end self.new.pass }
@@ -150,7 +155,8 @@ impl<'s, I: Index, D: LogDisk, O: Start> Client<'s, I, D, O> {
         has_no_room(&room)
     }
 
-    /// Copies the objects as they are, behind all that the client has seen. Who calls meanwhile waits: 0.1 to 0.2 seconds for 1,048,576.
+    /// Copies all objects, as of a place after all that the client has seen. Other callers wait until the copy is done,
+    /// which takes 0.1 to 0.2 seconds for 1,048,576 objects.
     pub fn world<R: Wait>(&mut self, rt: &R) -> Result<World, Memory>
         ensures looked { HasLooked self.old.pass self.new.pass }
         ensures world { IfOk result (λ w. w ≡ world_seen self.new.pass) }
@@ -174,7 +180,7 @@ impl<'s, I: Index, D: LogDisk, O: Start> Client<'s, I, D, O> {
         Ok(View::new(snapshot.index, snapshot.place))
     }
 
-    /// As `ask`, and counts how many buckets are opened for the answer.
+    /// As `ask`, and counts the buckets that are opened for the answer.
     pub fn ask_counted<R: Wait, L: Ledger>(
         &mut self,
         rt: &R,
@@ -201,7 +207,7 @@ impl<'s, I: Index, D: LogDisk, O: Start> Client<'s, I, D, O> {
         })
     }
 
-    // With a count that nobody asks for.
+    // With a count that no caller reads.
     fn ask_over<R: Wait, L: Ledger>(
         &mut self,
         rt: &R,
@@ -219,8 +225,8 @@ impl<'s, I: Index, D: LogDisk, O: Start> Client<'s, I, D, O> {
         self.ask_counted(rt, op, &mut steps)
     }
 
-    /// Answers a call, and notes it in the one history. Where the call tells that a leaf is full, that leaf is split, unless somebody else
-    /// is about to.
+    /// Answers a call, and notes it in the one history. If the call finds a full leaf, the client then splits that leaf,
+    /// unless another caller is about to.
     pub fn ask<R: Wait>(&mut self, rt: &R, op: &Op) -> Result<Reply, CallFault>
         requires { IsValid op.now }
         ensures asked { Asked I.WIDTH op.now self.old self.new result }

@@ -1,4 +1,4 @@
-//! Clients at once, each in a thread.
+//! Several clients at once, each in its own thread.
 ghost use Rattle.std.specs.Prelude.{◌≡◌, ◌≤◌, ◌<◌, [], IfOk, IfErr, vec_len, vec_capacity};
 ghost use Rattle.std.specs.List.{All};
 ghost use mathlib.Core.List.{IsPrefix};
@@ -12,12 +12,12 @@ use sessions::Start;
 use std::sync::Wait;
 use std::thread::{self, Threads};
 
-/// What a client is to do in a thread of its own, over a runtime of which it may ask for more than waiting: a clock, say.
+/// What a client does in its own thread. The runtime may have more than waiting, for example a clock.
 pub trait Work<R: Wait> {
     ghost use Rattle.std.specs.Prelude.{⊤};
     ghost use Rattle.store_client.specs.Caller.{Caller};
 
-    /// What its work makes of it and of the client.
+    /// What the work makes of itself and of the client.
     ghost does: { Self → Caller → Self → Caller → Type 0 } = { λ _ _ _ _. ⊤ };
 
     fn work<I: Index, D: LogDisk, O: Start>(&mut self, rt: &R, client: &mut Client<'_, I, D, O>)
@@ -31,8 +31,8 @@ pub struct Worker<'s, I: Index, D: LogDisk, O: Start, W> {
     pub work: W,
 }
 
-/// Lets each of a team work in a thread of its own, and returns when all are done. Where no thread can be made they work one after
-/// another, so none may wait for another one.
+/// Lets each of a team work in its own thread, and returns when all are done. If no thread can be started, they work one
+/// after another, so none may wait for another.
 pub fn at_once<
     's,
     I: Index + Send,
@@ -71,7 +71,7 @@ impl<'s, I: Index, D: LogDisk, O: Start> Client<'s, I, D, O> {
         }
     }
 
-    /// Takes in a worker's client, which asks no more, and gives the work back.
+    /// Joins a worker's client to this one, and returns the work. The worker's client ends.
     pub fn take_home<W>(&mut self, worker: Worker<'s, I, D, O, W>) -> W
         requires lock { worker.client.pass.lock ≡ self.old.pass.lock }
         ensures joined { self.new ≡ has_joined self.old worker.entry.client.pass }
@@ -85,7 +85,7 @@ impl<'s, I: Index, D: LogDisk, O: Start> Client<'s, I, D, O> {
     }
 }
 
-// The session of a hand behind so many others, where they count from this one.
+// The session of a worker after so many others. The sessions count from `first`.
 fn session_behind(first: u8, others: usize) -> u8
     ensures { result ≡ session_at first others }
 {
@@ -93,7 +93,7 @@ fn session_behind(first: u8, others: usize) -> u8
 }
 
 impl<'s, I: Index, D: LogDisk, O: Start> Client<'s, I, D, O> {
-    // Hires a hand for each of these works, the last one first.
+    // Hires a worker for each of these works, the last one first.
     fn hire_all<W>(&mut self, first: u8, works: &mut Vec<W>, team: &mut Vec<Worker<'s, I, D, O, W>>)
         requires parts { vec_len works.old < self.old.pass.parts }
         requires empty { team.old.items ≡ [] }
@@ -123,9 +123,9 @@ impl<'s, I: Index, D: LogDisk, O: Start> Client<'s, I, D, O> {
 }
 
 impl<'s, I: Index + Send, D: LogDisk + Send, O: Start + Send> Client<'s, I, D, O> {
-    /// Lets each of these work in a thread of its own, with a client of its own that has seen what this one has, and returns when all are
-    /// done: in the order in which they came. Their sessions count from `first`, and behind 255 from 0. Where memory runs out nobody has
-    /// worked, and the works come back.
+    /// Lets each of these works run in its own thread, with its own client that has seen what this one has. The call
+    /// returns the works in their order when all are done. Their sessions count from `first`, and continue at 0 after 255.
+    /// If memory runs out, no work has run, and the call returns all of them.
     pub fn work_all<W: Work<R> + Send, R: Threads + Wait + Sync>(
         &mut self,
         rt: &R,

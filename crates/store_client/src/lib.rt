@@ -1,17 +1,26 @@
-//! Short calls on a store: a client is one caller, with all that it needs to ask.
+//! Short calls on a store: a client is one caller, with all that it needs.
 //!
-//! Contracts see a `Client` as its pass, its session, the number of its next row and the place of its last answer. `Client::ask` is a call
-//! of the store, and behind it the split of the leaf that the call tells to be full: `Asked` says what both leave. The verbs (`put`,
-//! `move_to`, `remove`, `find`, `within`, `nearest`) are the same call, each with just the answers that it may have, and `report` is a move
-//! or a put, as it takes. `world` copies the objects, and `view` returns them without a copy. `Client::work_all` lets a team work at once,
-//! each in a thread of its own, and takes all home (`TeamDid`). Whatever clients do, their store, its origin, their parts and their session
-//! stay (`Keeps`): so who has joined all of them again may renew or close the store, and knows from what it began. The limits of a store are
-//! constants here.
+//! Contracts see a `Client` as its pass, its session, the number of its next row and the place of its last answer.
 //!
-//! Not here: what a store is, and how it is made and closed (`sessions`).
+//! | Call | What it does |
+//! |---|---|
+//! | `ask` | one call of the store, and then the split of a full leaf (`Asked`) |
+//! | `put`, `move_to`, `remove`, `find`, `within`, `nearest` | the same call, each with just its own answers |
+//! | `report` | a move, or a put if there is no such object |
+//! | `apply` | all operations of a `Batch` as one step (`Applies`) |
+//! | `world`, `view` | a copy of all objects, or a view without a copy |
+//! | `another`, `join`, `learn` | share the store with other callers |
+//! | `work_all` | lets a team work at once, each in its own thread (`TeamDid`) |
+//!
+//! No call changes a client's store, its origin, its parts or its session (`Keeps`). So a caller that has joined all
+//! clients again may renew or close the store. The limits of a store are constants here.
+//!
+//! Not here: what a store is, and how it is opened and closed (`sessions`).
 #![tactic(auto)]
 
 mod answers;
+mod batch;
+mod batches;
 mod changes;
 mod client;
 mod crowd;
@@ -20,7 +29,9 @@ mod shares;
 mod verbs;
 
 pub use answers::{Listed, MoveReply, PutReply, Report};
-pub use client::{Client, Reply};
+pub use batch::{Batch, MOST_BATCH, NotAdded};
+pub use batches::{Replies, more_splits, rows_of, split_some};
+pub use client::{Client, Reply, try_split};
 pub use crowd::{Work, Worker, at_once};
 pub use limits::{
     MOST_CELLS, MOST_CELLS_TO_BEGIN, MOST_CLIENTS, MOST_EVENTS, MOST_EVENTS_TO_BEGIN, MOST_LISTED,

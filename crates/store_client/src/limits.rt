@@ -1,4 +1,4 @@
-//! How much a store takes, and how much it tells at once.
+//! The limits of a store, and of one answer.
 ghost use Rattle.std.specs.Prelude.{◌≡◌, ◌≤◌, ◌↔◌, ℕ, List, length, nat_le, if◌then◌else◌, Option};
 ghost use Rattle.zorder.specs.declared.points.Placed.{Placed};
 ghost use Rattle.zorder.specs.declared.points.Point.{Point};
@@ -15,10 +15,10 @@ pub use commit_book::{MOST_CELLS_TO_BEGIN, MOST_EVENTS, MOST_EVENTS_TO_BEGIN};
 pub use plain_list::{MOST_LISTED, MOST_MEMBERS};
 pub use split_log::MOST_CELLS;
 
-/// How many objects `nearest` may be asked for.
+/// The most objects that `nearest` returns.
 pub const MOST_NEAREST: u32 = 2_048;
 
-/// How many clients a store may have at once.
+/// The most clients of a store at once.
 pub const MOST_CLIENTS: usize = 65_536;
 
 /// Whether there is too little room for a further split.

@@ -10,9 +10,9 @@ use index_layer::Index;
 use sessions::Start;
 
 impl<'s, I: Index, D: LogDisk, O: Start> Client<'s, I, D, O> {
-    /// A client for another caller, which has seen the same, with so many of this one's parts. The new client can give all of its parts but
-    /// one to others in the same way, and this one keeps at least one. No test at run time counts parts: the prover refuses a call for no
-    /// parts, and a call for as many as this client has or more.
+    /// A client for another caller, which has seen the same, with so many of this one's parts. The new client can share
+    /// its parts in the same way, and each client keeps at least one. No test at run time counts parts. The prover refuses
+    /// a call for no parts, and a call for as many as this client has or more.
     pub fn another_with(&mut self, session: u8, parts: u64) -> Client<'s, I, D, O>
         requires parts { (1 ≤ parts) × (parts < self.old.pass.parts) }
         ensures old { self.new ≡ without_parts parts self.old }
@@ -30,7 +30,7 @@ impl<'s, I: Index, D: LogDisk, O: Start> Client<'s, I, D, O> {
         }
     }
 
-    /// A client for another caller, which has seen the same, with one part: it can give none to others.
+    /// A client for another caller, which has seen the same. It has one part, so it can't share.
     pub fn another(&mut self, session: u8) -> Client<'s, I, D, O>
         requires parts { 2 ≤ self.old.pass.parts }
         ensures old { self.new ≡ without_part self.old }
@@ -39,7 +39,7 @@ impl<'s, I: Index, D: LogDisk, O: Start> Client<'s, I, D, O> {
         self.another_with(session, 1)
     }
 
-    /// Takes in another client, which asks no more.
+    /// Joins another client to this one. The other client ends.
     pub fn join(&mut self, other: Client<'s, I, D, O>)
         requires lock { other.pass.lock ≡ self.old.pass.lock }
         ensures joined { self.new ≡ has_joined self.old other.entry.pass }
@@ -49,7 +49,7 @@ impl<'s, I: Index, D: LogDisk, O: Start> Client<'s, I, D, O> {
         store.join_pass(&mut self.pass, other.into_pass());
     }
 
-    /// Tells a client what another one has seen: each of its calls from then on stands behind that.
+    /// Lets this client know what another one has seen. From then on its calls come after all of that.
     pub fn learn(&mut self, from: &mut Client<'s, I, D, O>)
         requires lock { from.old.pass.lock ≡ self.old.pass.lock }
         ensures same { from.new ≡ from.old }

@@ -1,4 +1,4 @@
-//! The verbs: calls that are told just what they may be.
+//! The verbs: calls whose result has just the answers that the operation may have.
 ghost use Rattle.std.specs.Prelude.{◌≤◌};
 ghost use Rattle.zorder.specs.Region.{IsBox};
 ghost use Rattle.store_client.specs.Caller.{Keeps};
@@ -17,7 +17,7 @@ use std::sync::Wait;
 use zorder::{Point, Region};
 
 impl<'s, I: Index, D: LogDisk, O: Start> Client<'s, I, D, O> {
-    /// Puts a new object.
+    /// Puts a new object. An object that is there already stays unchanged.
     pub fn put<R: Wait>(
         &mut self,
         rt: &R,
@@ -32,7 +32,7 @@ impl<'s, I: Index, D: LogDisk, O: Start> Client<'s, I, D, O> {
         Ok(put_reply(reply.answer))
     }
 
-    /// Moves an object, unless it has a later moment.
+    /// Moves an object, unless the object has a later moment.
     pub fn move_to<R: Wait>(
         &mut self,
         rt: &R,
@@ -47,7 +47,7 @@ impl<'s, I: Index, D: LogDisk, O: Start> Client<'s, I, D, O> {
         Ok(move_reply(reply.answer))
     }
 
-    /// Removes an object, and tells where it was, if there is such a one.
+    /// Removes an object, and returns where it was. `None` says that there is no such object.
     pub fn remove<R: Wait>(&mut self, rt: &R, id: u64) -> Result<Option<Stamped>, CallFault>
         ensures asked { AskedAs gone_answer I.WIDTH (Op.Remove id) self.old self.new result }
         ensures client { Keeps self.old self.new }
@@ -56,7 +56,7 @@ impl<'s, I: Index, D: LogDisk, O: Start> Client<'s, I, D, O> {
         Ok(gone_reply(reply.answer))
     }
 
-    /// Where an object is, if there is such a one.
+    /// Returns where an object is. `None` says that there is no such object.
     pub fn find<R: Wait>(&mut self, rt: &R, id: u64) -> Result<Option<Stamped>, CallFault>
         ensures asked { AskedAs at_answer I.WIDTH (Op.Find id) self.old self.new result }
         ensures client { Keeps self.old self.new }
@@ -65,7 +65,7 @@ impl<'s, I: Index, D: LogDisk, O: Start> Client<'s, I, D, O> {
         Ok(at_reply(reply.answer))
     }
 
-    /// The objects in a box, by their ids.
+    /// Returns the objects in a box, in the order of their ids.
     pub fn within<R: Wait>(&mut self, rt: &R, region: Region) -> Result<Listed, CallFault>
         requires { IsBox region }
         ensures asked { AskedAs listed_answer I.WIDTH (Op.Within region) self.old self.new result }
@@ -75,7 +75,7 @@ impl<'s, I: Index, D: LogDisk, O: Start> Client<'s, I, D, O> {
         Ok(listed_reply(reply.answer))
     }
 
-    /// The k objects that are nearest to a point, or all where there are fewer: the nearest first.
+    /// Returns the k objects that are nearest to a point, the nearest first. If there are fewer, it returns all.
     pub fn nearest<R: Wait>(&mut self, rt: &R, at: Point, k: u32) -> Result<PlacedList, CallFault>
         requires least { 1 ≤ k }
         requires most { k ≤ 2048 }
@@ -86,7 +86,7 @@ impl<'s, I: Index, D: LogDisk, O: Start> Client<'s, I, D, O> {
         Ok(nearest_reply(reply.answer))
     }
 
-    // Tries to say where an object is. Where another caller has put it between the move and the put, nothing is told.
+    // Tries to say where an object is. `None` says that another caller has put it between the move and the put.
     fn try_report<R: Wait>(
         &mut self,
         rt: &R,
@@ -107,7 +107,8 @@ impl<'s, I: Index, D: LogDisk, O: Start> Client<'s, I, D, O> {
         put_report(told)
     }
 
-    /// Says where an object is now: a move, and where there is no such object, a put. Where another caller has put it meanwhile, again.
+    /// Says where an object is now. It moves the object, or puts it if there is no such object. If another caller puts the
+    /// object between these two calls, it tries again.
     pub fn report<R: Wait>(
         &mut self,
         rt: &R,
