@@ -1,4 +1,4 @@
--- What the next opening of a file finds, once a store over it was closed.
+-- What the next opening of a file finds, after a store over it was closed.
 use Rattle.std.proofs.Common.{◌≡◌, inl, inr, ◌∙◌, ℕ, ◌+◌, ◌*◌, ◌≤◌, Bool, true, false, List, [], ◌∷◌, ◌++◌, length, Option, Some, None, is_some, cond, refl, sym, ap, subst, arith, length-append}
 use mathlib.Core.Bool.{true≢false}
 use Rattle.std.proofs.lemmas.List.{append-nil}
@@ -37,7 +37,7 @@ same_either : {A : Type 0} (b : Bool) (x : A) → cond b x x ≡ x
 same_either true x = refl
 same_either false x = refl
 
--- the cells of a call make of a world what the call does
+-- The cells of a call change a world as the call does.
 module _ (w : ℕ) (s : State) (world : World) (rest : List Cell) (last : World) (same : s.world ≡ world) where
   quiet : (o : Op) → after_of world o ≡ world → ((d : State) → d.world ≡ after_of world o → (cells_after w d rest).world ≡ last) → (cells_after w s rest).world ≡ last
   quiet o is on = on s (same ∙ sym is)
@@ -52,7 +52,7 @@ module _ (w : ℕ) (s : State) (world : World) (rest : List Cell) (last : World)
   by_test (op.Near at k) true is on = quiet (op.Near at k) (same_either (is_change (answer_of world (op.Near at k))) world) on
   by_test o false is on = quiet o (ap (λ t. cond t (changed world o) world) is) on
 
--- the cells of a history make of a world what the history does
+-- The cells of a history change a world as the history does.
 pub cells-world : (w : ℕ) (s : State) (world : World) (h : List Entry) → s.world ≡ world → (cells_after w s (cells_of world h)).world ≡ world_after world h
 cells-world w s world [] same = same
 cells-world w s world (entry.Call session row o ∷ h) same =
@@ -62,7 +62,7 @@ cells-world w s world (entry.Install number ∷ h) same = cells-world w (step w 
 cells-world w s world (entry.Abandon number ∷ h) same = cells-world w (step w s (entry.Abandon number)) world h same
 cells-world w s world (entry.Fail number lost ∷ h) same = cells-world w s world h same
 
--- a file that is the text of so few cells that it is small has none
+-- If the cells take no bytes, there are no cells.
 no-more : (cells : List Cell) → 32 * length cells ≤ 0 → [] ≡ cells
 no-more [] few = refl
 no-more (c ∷ cells) few = absurd (omega (arith, few))
@@ -74,12 +74,12 @@ text-length w cells drive log =
 text-holds : (w : ℕ) (cells : List Cell) (drive : Drive) (log : IsLog w cells drive) → HoldsCells newest w cells log.bytes
 text-holds w cells drive log = record { front = log.bytes; rest = []; parts = sym (append-nil log.bytes); text = log.text }
 
--- what is found in the text of cells
+-- What is found in the text of cells is these cells.
 finds-text : (w : ℕ) (cells found : List Cell) (drive : Drive) (log : IsLog w cells drive) → FindsCells w found log.bytes → found ≡ cells
 finds-text w cells found drive log (inl small) = small.1 ∙ no-more cells (omega (arith, small.0, text-length w cells drive log))
 finds-text w cells found drive log (inr long) = holds-same long.1.version newest w found cells log.bytes long.1.holds (text-holds w cells drive log)
 
--- what is found in what a crash leaves of the text of cells
+-- What is found in a crash image of the text of cells is these cells.
 finds-image : (w : ℕ) (cells found : List Cell) (drive : Drive) (log : IsLog w cells drive) (image : List ℕ) → drive.images image → FindsCells w found image → found ≡ cells
 finds-image w cells found drive log image left finds = finds-text w cells found drive log (subst (λ (c : List ℕ). FindsCells w found c) (log.durable image left) finds)
 
@@ -90,7 +90,7 @@ some_of (Some bytes) is = (bytes, refl)
 module _ {D E : Type 0} (drive : D → Drive) (other : E → Drive) (w bucket size : ℕ) (file also : List ℕ) (old : Drive) (Is : Drive → Type 0) (lock key : TableId) (pass last next : Known) (points number : ℕ) (latest newer : Option ℕ) (records more : ℕ)
     (entries : List Entry) (disk : D) (opened : OpensStore drive w bucket file old lock pass points latest records) (one : last.origin ≡ pass.origin) (told : is_some old.bytes ≡ true)
     (closed : ClosesStore drive w Is last entries disk) (good : failed_cell last.seen ≡ None) where
-  -- The file is the text of the cells that the opening found and of the history's, and a crash leaves it.
+  -- The file is the text of the cells that the opening found and of the history's. A crash leaves that text.
   pub text-closed : IsLog w (opened.cells ++ cells_of pass.origin.world last.seen) (drive disk)
   text-closed =
       let start : LogStart = record { cells = length opened.cells; bytes = (drive opened.start).bytes; clock = (drive opened.start).clock; faults = (drive opened.start).faults } in
@@ -102,13 +102,13 @@ module _ {D E : Type 0} (drive : D → Drive) (other : E → Drive) (w bucket si
       subst (λ (o : Origin). IsLog w (opened.cells ++ cells_of o.world last.seen) (drive disk)) one
       (subst (λ (d : D). IsLog w (opened.cells ++ cells_of last.origin.world last.seen) (drive d)) closed.disk_is text)
 
-  -- Any drive over the file, whose bytes are what a crash leaves of this one.
+  -- Any drive over the file whose bytes are a crash image of this drive.
   module _ (image : List ℕ) (left : (drive disk).images image) (new : Drive) (holds : new.bytes ≡ Some image) (again : OpensStore other w size also new key next number newer more) where
-    -- the next opening finds these cells
+    -- The next opening finds these cells.
     pub finds-cells : again.cells ≡ opened.cells ++ cells_of pass.origin.world last.seen
     finds-cells = finds-image w (opened.cells ++ cells_of pass.origin.world last.seen) again.cells (drive disk) text-closed image left (again.found.finds image holds)
 
-    -- and begins with the objects that the last history left
+    -- The next opening begins with the objects that the last history left.
     pub finds-closed : GoesOnFrom pass.origin last.seen next.origin
     finds-closed =
         let first : pass.origin.world ≡ (state_of w opened.cells).world = ap (λ (k : Known). k.origin.world) opened.pass_is in
@@ -117,21 +117,21 @@ module _ {D E : Type 0} (drive : D → Drive) (other : E → Drive) (w bucket si
         ∙ ap (λ (s : State). s.world) (cells_after-append w empty_state opened.cells (cells_of pass.origin.world last.seen))
         ∙ cells-world w (state_of w opened.cells) pass.origin.world last.seen (sym first)
 
--- A store that was closed, whatever it went on from: the opening of a file, or a renewal or a rotation behind others.
+-- A store that was closed, whatever it began from: the opening of a file, or a renewal or a rotation after others.
 module _ {D : Type 0} (drive : D → Drive) (w : ℕ) (Is : Drive → Type 0) (last : Known) (entries : List Entry) (disk : D) (closed : ClosesStore drive w Is last entries disk)
     (told : is_some (drive disk).bytes ≡ true) (good : failed_cell last.seen ≡ None) where
-  -- the bytes of its log as it went on, and the cells that they recover to
+  -- The bytes of its log at the beginning, and the cells that these bytes recover to.
   pub bytes-first : (bytes : List ℕ) × ((drive closed.log.start).bytes ≡ Some bytes)
   bytes-first = some_of (drive closed.log.start).bytes (sym closed.keeps.told ∙ ap (λ (d : D). is_some (drive d).bytes) closed.disk_is ∙ told)
 
   pub cells-first : RecoversTo w (start_of last.origin) bytes-first.0
   cells-first = closed.keeps.from bytes-first.0 bytes-first.1
 
-  -- these, and those of the history
+  -- These cells, and then those of the history.
   abbrev pub cells-last : List Cell
   cells-last = cells-first.cells ++ cells_of last.origin.world last.seen
 
-  -- are what the file is the text of, and a crash leaves that
+  -- The file is the text of these cells, and a crash leaves that text.
   pub text-last : IsLog w cells-last (drive disk)
   text-last =
       subst (λ (d : D). IsLog w cells-last (drive d)) closed.disk_is
@@ -145,7 +145,7 @@ module _ {D : Type 0} (drive : D → Drive) (w : ℕ) (Is : Drive → Type 0) (l
       subst (λ (s : State). IsLegalCells w (cells-first.cells ++ cells_of s.world last.seen)) cells-first.state
       (legal_behind w cells-first.cells last.seen cells-first.recovers.legal legal-history)
 
-  -- and they leave what the history left, with no split open
+  -- These cells leave what the history left, with no open split.
   pub state-last : at_rest (state_of w cells-last) ≡ renewed_state w (start_of last.origin) last.seen
   state-last =
       subst (λ (s : State). at_rest (state_of w (cells-first.cells ++ cells_of s.world last.seen)) ≡ renewed_state w s last.seen) cells-first.state
@@ -154,13 +154,13 @@ module _ {D : Type 0} (drive : D → Drive) (w : ℕ) (Is : Drive → Type 0) (l
   pub world-last : (state_of w cells-last).world ≡ world_after last.origin.world last.seen
   world-last = ap (λ (s : State). s.world) state-last ∙ state_after-world w (start_of last.origin) last.seen
 
-  -- Any drive over the file, whose bytes are what a crash leaves of this one.
+  -- Any drive over the file whose bytes are a crash image of this drive.
   module _ {E : Type 0} (other : E → Drive) (size : ℕ) (also : List ℕ) (key : TableId) (next : Known) (number : ℕ) (newer : Option ℕ) (more : ℕ)
       (image : List ℕ) (left : (drive disk).images image) (new : Drive) (holds : new.bytes ≡ Some image) (again : OpensStore other w size also new key next number newer more) where
     pub cells-found : again.cells ≡ cells-last
     cells-found = finds-image w cells-last again.cells (drive disk) text-last image left (again.found.finds image holds)
 
-    -- the next opening begins with the objects, the leaves and the number of splits that the history left
+    -- The next opening begins with the objects, the leaves and the number of splits that the history left.
     pub finds-last : start_of next.origin ≡ renewed_state w (start_of last.origin) last.seen
     finds-last = ap (λ (k : Known). start_of k.origin) again.pass_is ∙ ap (λ (l : List Cell). at_rest (state_of w l)) cells-found ∙ state-last
 

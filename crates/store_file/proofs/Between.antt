@@ -1,4 +1,4 @@
--- What an opening of two files finds, wherever a crash came while a store went on from the one to the other.
+-- What an opening of two files finds, wherever a crash came while a store continued from the first to the second.
 use Rattle.std.proofs.Common.{◌≡◌, ◌⊎◌, inl, inr, ⊎_elim, ◌∙◌, ℕ, ◌+◌, ◌*◌, ◌≤◌, true, Bool, List, [], ◌∷◌, ◌++◌, length, Option, Some, is_some, refl, sym, ap, subst, arith, length-append}
 use Rattle.std.proofs.lemmas.List.{append-nil}
 use Rattle.std.specs.Prelude.{⊤, None}
@@ -34,7 +34,7 @@ use Rattle.store_file.specs.Opened.{OpensStore}
 use Rattle.store_file.specs.Rotated.{RotatesTo, world_left, cells_left}
 use Rattle.store_file.proofs.Again.{cells-world, text-closed, cells-last, text-last, legal-last, world-last}
 
--- cells that leave these objects
+-- The cells leave these objects.
 abbrev HasObjects : ℕ → World → List Cell → Type 0
 HasObjects w world cells = (state_of w cells).world ≡ world
 
@@ -42,20 +42,20 @@ none-by : (cells : List Cell) → length cells ≡ 0 → cells ≡ []
 none-by [] is = refl
 none-by (c ∷ cells) is = absurd (omega (arith, is))
 
--- where none are gone on with, there are none beside them
+-- If the chosen log has no cells, the other one has none.
 rest-none : (which : Which) (cells other : List Cell) → IsChosen which (length cells) (length other) → cells ≡ [] → other ≡ []
 rest-none side.First cells other (inl none) is = none-by other none
 rest-none side.First cells other (inr some) is = absurd (omega (arith, some.0, ap length is))
 rest-none side.Second cells other some is = absurd (omega (arith, some.0, ap length is))
 
--- those that are gone on with leave the objects, where those beside them do, or they themselves
+-- If one of two logs leaves the objects, the chosen one does, unless it has cells that leave others.
 chosen-has : (w : ℕ) (world : World) (which : Which) (cells other : List Cell) → IsChosen which (length cells) (length other) → HasObjects w world cells ⊎ (cells ≡ [])
     → HasObjects w world cells ⊎ HasObjects w world other → HasObjects w world cells
 chosen-has w world which cells other chosen (inl has) one = has
 chosen-has w world which cells other chosen (inr none) (inl has) = has
 chosen-has w world which cells other chosen (inr none) (inr has) = subst (HasObjects w world) (rest-none which cells other chosen none ∙ sym none) has
 
--- the text of cells is as long as they are
+-- Bytes that hold cells are at least 17 bytes, and 32 more for each cell.
 holds-length : (v w : ℕ) (cells : List Cell) (bytes : List ℕ) → HoldsCells v w cells bytes → 17 + 32 * length cells ≤ length bytes
 holds-length v w cells bytes holds =
     omega (
@@ -67,7 +67,7 @@ holds-length v w cells bytes holds =
       length-front_of v w cells,
     )
 
--- what is found in an image is what it recovers to
+-- What is found in an image is what the image recovers to.
 image-finds : (w : ℕ) (cells found : List Cell) (image : List ℕ) → Recovers w cells image → FindsCells w found image → found ≡ cells
 image-finds w cells found image recovers (inl small) =
     let long = holds-length recovers.version w cells image recovers.holds in
@@ -95,7 +95,7 @@ module _ (w : ℕ) (world : World) (cells fresh : List Cell) (has : HasObjects w
   one-has (inl writing) one two finds others = inl (subst (HasObjects w world) (sym (image-finds w cells one first writing.0 finds)) has)
   one-has (inr clearing) one two finds others = inr (subst (HasObjects w world) (sym (image-finds w fresh two second clearing.1 others)) also)
 
-  -- whichever of them is gone on with
+  -- Either file may be the chosen one.
   module _ (between : IsBetween w cells fresh first second) (which : Which) (chosen other : List Cell) (is : IsChosen which (length chosen) (length other)) where
     first-chosen : FindsCells w chosen first → FindsCells w other second → HasObjects w world chosen
     first-chosen finds others = chosen-has w world which chosen other is (first-finds between chosen finds) (one-has between chosen other finds others)
@@ -117,12 +117,13 @@ module _ {E : Type 0} (drive : E → Drive) (w size : ℕ) (file also : List ℕ
   by-sides side.Second side.Second opened told other =
       first-chosen w world cells fresh has fresh-has first second between side.Second opened.opens.cells opened.other opened.chosen (opened.opens.found.finds first told) (opened.gives_up.finds.finds second other)
 
-  -- Wherever the crash came, an opening of both files begins with these objects. The first file of the rotation may be either one of the opening.
+  -- Wherever the crash came, an opening of both files begins with these objects. The first file of the rotation may be
+  -- either file of the opening.
   pub finds-between : (old which : Which) (opened : OpensEither drive w size file also one two which key next number newer more spare)
       → (drive (chosen_of old one two)).bytes ≡ Some first → (drive (other_of old one two)).bytes ≡ Some second → next.origin.world ≡ world
   finds-between old which opened told other = ap (λ (k : Known). k.origin.world) opened.opens.pass_is ∙ by-sides old which opened told other
 
--- what a log leaves, whose file is the text of legal cells
+-- A crash leaves the cells of a log whose file is the text of legal cells.
 log-recovers : (w : ℕ) (cells : List Cell) (drive : Drive) → IsLog w cells drive → IsLegalCells w cells → LeavesNow drive (Recovers w cells)
 log-recovers w cells drive log legal image left = record {
   version = newest;
@@ -132,12 +133,12 @@ log-recovers w cells drive log legal image left = record {
 }
 
 module _ (w : ℕ) (cells fresh : List Cell) (old : Drive) (log : IsLog w cells old) (legal : IsLegalCells w cells) where
-  -- while the second file is written, the first one stands
+  -- While the second file is written, the first one keeps its cells.
   pub between-writing : (spare now : Drive) (bytes : List ℕ) → spare.bytes ≡ Some bytes → LeavesNow spare IsSmall → KeepsOnWay w fresh spare now
       → (first second : List ℕ) → old.images first → now.since spare.clock second → IsBetween w cells fresh first second
   between-writing spare now bytes told small keeps first second left since = inl (log-recovers w cells old log legal first left, (keeps.on_way bytes told small).each second since)
 
-  -- while the first one is cleared, the second one stands
+  -- While the first file is cleared, the second one keeps its cells.
   pub between-clearing : (new now : Drive) → IsLog w fresh new → IsLegalCells w fresh → KeepsOrClears old now
       → (first second : List ℕ) → now.since old.clock first → new.images second → IsBetween w cells fresh first second
   between-clearing new now stands fresh_legal keeps first second since left = inr (
@@ -147,10 +148,10 @@ module _ (w : ℕ) (cells fresh : List Cell) (old : Drive) (log : IsLog w cells 
     log-recovers w fresh new stands fresh_legal second left,
   )
 
--- A store that was opened over a file goes on over a second one, with whatever leaves.
+-- A store that was opened over a file continues over a second one, with any leaves.
 module _ {D : Type 0} (drive : D → Drive) (w bucket : ℕ) (file : List ℕ) (old : Drive) (lock : TableId) (pass last : Known) (points : ℕ) (latest : Option ℕ) (records : ℕ) (Are : List (List Bool) → Type 0) (entries : List Entry) (disk spare : D) (origin : Origin) (count : ℕ)
     (opened : OpensStore drive w bucket file old lock pass points latest records) (one : last.origin ≡ pass.origin) (told : is_some old.bytes ≡ true) (to : RotatesTo drive w Are last entries disk spare origin count) where
-  -- the cells of the first file, and those of the second one
+  -- The cells of the first file, and those of the second one.
   abbrev pub cells-closed : List Cell
   cells-closed = opened.cells ++ cells_of pass.origin.world last.seen
 
@@ -175,7 +176,7 @@ module _ {D : Type 0} (drive : D → Drive) (w bucket : ℕ) (file : List ℕ) (
       ∙ cells-world w (state_of w opened.cells) pass.origin.world last.seen (sym first-world)
       ∙ ap (λ (o : Origin). world_after o.world last.seen) (sym one)
 
-  -- what a crash leaves while the second file is written, and while the first one is cleared
+  -- What a crash leaves while the second file is written, and while the first one is cleared.
   pub between-written : (bytes : List ℕ) → (drive spare).bytes ≡ Some bytes → LeavesNow (drive spare) IsSmall → (first second : List ℕ) → (drive disk).images first → (drive to.start).since (drive spare).clock second
       → IsBetween w cells-closed fresh-closed first second
   between-written bytes known small = between-writing w cells-closed fresh-closed (drive disk) log-closed legal-closed (drive spare) (drive to.start) bytes known small to.on_way
@@ -185,15 +186,15 @@ module _ {D : Type 0} (drive : D → Drive) (w bucket : ℕ) (file : List ℕ) (
   between-cleared bytes known left keeps =
       between-clearing w cells-closed fresh-closed (drive disk) log-closed legal-closed (drive to.start) (drive left) (to.compacted.log bytes known).1 to.state.legal keeps
 
-  -- an opening of both files begins with the objects that the history left
+  -- An opening of both files begins with the objects that the history left.
   module _ {E : Type 0} (other : E → Drive) (size : ℕ) (one_file two_file : List ℕ) (three four : E) (key : TableId) (next : Known) (number : ℕ) (newer : Option ℕ) (more : ℕ) (left : E)
       (first second : List ℕ) (between : IsBetween w cells-closed fresh-closed first second) where
     pub finds-left : (side which : Which) (again : OpensEither other w size one_file two_file three four which key next number newer more left)
         → (other (chosen_of side three four)).bytes ≡ Some first → (other (other_of side three four)).bytes ≡ Some second → next.origin.world ≡ world_left last.origin last.seen
     finds-left = finds-between other w size one_file two_file three four key next number newer more left (world_left last.origin last.seen) cells-closed fresh-closed world-closed to.state.world_is first second between
 
--- The same of a store that goes on from a history behind whatever stood before (`text-last`, proofs/Again): the second file is written with cells
--- that leave the same objects, as those of `RotatesTo` do, and then the first one is cleared.
+-- The same for a store that begins after any earlier history (`text-last`, proofs/Again). The second file is written
+-- with cells that leave the same objects, as those of `RotatesTo` do. Then the first file is cleared.
 module _ {D : Type 0} (drive : D → Drive) (w : ℕ) (Is : Drive → Type 0) (last : Known) (entries : List Entry) (disk : D) (closed : ClosesStore drive w Is last entries disk)
     (told : is_some (drive disk).bytes ≡ true) (good : failed_cell last.seen ≡ None) (fresh : List Cell) (legal : IsLegalCells w fresh)
     (world_is : (state_of w fresh).world ≡ world_after last.origin.world last.seen) where

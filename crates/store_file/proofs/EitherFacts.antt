@@ -1,4 +1,4 @@
--- A store over one of two files that were opened, and what becomes of the other one.
+-- A store over one of two files that were opened, and what happens to the other one.
 use Rattle.std.proofs.Common.{◌≡◌, ◌⊎◌, inl, inr, ⊎_elim, ◌∙◌, ℕ, ◌<◌, true, List, [], ◌∷◌, length, Option, Some, None, is_some, refl, sym, ap, subst, arith}
 use mathlib.Core.Bool.{true≢false}
 use Rattle.causes.specs.Causes.{Rose}
@@ -39,7 +39,7 @@ none-by : (cells : List Cell) → length cells ≡ 0 → cells ≡ []
 none-by [] is = refl
 none-by (c ∷ cells) is = absurd (omega (arith, is))
 
--- a file that was opened
+-- A file that was opened.
 module _ {D : Type 0} (drive : D → Drive) (w : ℕ) (file : List ℕ) (old : Drive) (start : D) (now : Drive) (seen : Seen) (laws : KeepsLaws old) (opens : OpensFile w file old (drive start) now seen) where
   cells-told : (bytes : List ℕ) → old.bytes ≡ Some bytes → IsLog w opens.found.cells now
   cells-told bytes told =
@@ -61,7 +61,7 @@ module _ {D : Type 0} (drive : D → Drive) (w : ℕ) (file : List ℕ) (old : D
     keeps = file-then w file old (drive start) now laws opens.readies opens.keeps;
   }
 
--- its log is emptied, or the drive fails in that
+-- The log of a file is emptied, or the drive fails while it is emptied.
 module _ {D : Type 0} (drive : D → Drive) (w : ℕ) (file : List ℕ) (cells : List Cell) (old mid new : D) (laws : KeepsLaws (drive old)) (finds : FindsFile w file cells (drive old) (drive mid))
     (keeps : KeepsOrClears (drive mid) (drive new)) where
   in-clear : (bytes : List ℕ) → (drive old).bytes ≡ Some bytes → LeavesOnly (drive mid) (drive new) (λ c. Recovers w cells c ⊎ Recovers w [] c)
@@ -96,13 +96,13 @@ module _ {D : Type 0} (drive : D → Drive) (w : ℕ) (file : List ℕ) (cells :
   pub gives-up : (Came : Drive → Drive → Type 0) → Came (drive mid) (drive new) → GivesUp drive w Came file cells old new
   gives-up Came came = record { opened = mid; finds = finds; came = came; keeps = keeps-empties }
 
--- the drive of the other file failed
+-- If the drive of the other file failed, the bytes don't decide the cause.
 rose-other : (which : Which) {D : Type 0} (drive : D → Drive) (first second one two : D) (c : EitherCause) → Rose (drive (other_of which first second)).faults (drive (other_of which one two)).faults
     → IsFreeEither (drive first) (drive second) (drive one) (drive two) c
 rose-other side.First drive first second one two c rose = inr (inr rose)
 rose-other side.Second drive first second one two c rose = inr (inl rose)
 
--- both files were opened, and this one is gone on with
+-- Both files were opened, and this one is chosen.
 module _ {D : Type 0} (drive : D → Drive) (laws : (d : D) → KeepsLaws (drive d)) (w bucket : ℕ) (first_file second_file : List ℕ) (first second : D) (which : Which)
     (start now : D) (seen : Seen) (opens : OpensFile w (chosen_of which first_file second_file) (drive (chosen_of which first second)) (drive start) (drive now) seen)
     (also mid : D) (other : Seen) (besides : OpensFile w (other_of which first_file second_file) (drive (other_of which first second)) (drive also) (drive mid) other)
@@ -168,7 +168,7 @@ module _ {D : Type 0} (drive : D → Drive) (laws : (d : D) → KeepsLaws (drive
     free-taken (First why) came = absurd came
     free-taken (Second why) came = absurd came
 
--- one of both wasn't opened
+-- One of the two files wasn't opened.
 pub refuses-both : {D : Type 0} (drive : D → Drive) (w bucket : ℕ) (first_file second_file : List ℕ) (first second one two : D) (c : EitherCause) → is_bucket bucket ≡ true
     → RefusesBoth drive w first_file second_file first second one two c → RefusesEither drive w bucket first_file second_file first second one two c
 refuses-both drive w bucket first_file second_file first second one two (First why) sized not = (sized, not.0, not.1)
@@ -187,7 +187,7 @@ pub free-second : (a b c d : Drive) (why : OpenCause) → IsFreeCause b d why �
 free-second a b c d why (inl memory) = inl (inr (inr (ap Second memory)))
 free-second a b c d why (inr rose) = inr (inr rose)
 
--- the one of two files that were opened, and the other one
+-- The chosen one of two files that were opened, and the other one.
 opened-chosen : {D : Type 0} (drive : D → Drive) (w : ℕ) (file also : List ℕ) (first second start begun now then : D) (one two : Seen) (which : Which)
     → OpensFile w file (drive first) (drive start) (drive now) one → OpensFile w also (drive second) (drive begun) (drive then) two
     → OpensFile w (chosen_of which file also) (drive (chosen_of which first second)) (drive (chosen_of which start begun)) (drive (chosen_of which now then)) (chosen_of which one two)
@@ -212,7 +212,7 @@ count-other : {D : Type 0} (log also : LogView D) (one two : Seen) (which : Whic
 count-other log also one two side.First a b = b
 count-other log also one two side.Second a b = a
 
--- both files were opened, and what came of that
+-- Both files were opened, with this result.
 module _ {D : Type 0} (drive : D → Drive) (laws : (d : D) → KeepsLaws (drive d)) (w bucket : ℕ) (sized : is_bucket bucket ≡ true) (file also_file : List ℕ) (first second start begun : D) (one two : Seen) (log also : LogView D)
     (opens : OpensFile w file (drive first) (drive start) (drive log.disk) one) (besides : OpensFile w also_file (drive second) (drive begun) (drive also.disk) two)
     (counts : log.cells ≡ one.cells) (also_counts : also.cells ≡ two.cells) where
@@ -280,7 +280,7 @@ module _ {D : Type 0} (drive : D → Drive) (laws : (d : D) → KeepsLaws (drive
     neither-free (First why) is = absurd is
     neither-free (Second why) is = absurd is
 
--- the same values under other names
+-- The same values under other names.
 pub begins-placed : {D : Type 0} (drive : D → Drive) (bucket : ℕ) (one two : Seen) (log also : LogView D) (start begun : D) (which side : Which) (lock key : TableId) (pass next : Known) (points number : ℕ) (latest newer : Option ℕ)
     (records more : ℕ) (spare left : D) → side ≡ which → key ≡ lock → next ≡ pass → number ≡ points → newer ≡ latest → more ≡ records → left ≡ spare
     → BeginsEither drive bucket one two log also start begun which lock pass points latest records spare
@@ -294,7 +294,7 @@ begins-placed drive bucket one two log also start begun which side lock key pass
     (subst (λ (x : ℕ). BeginsEither drive bucket one two log also start begun which lock pass points latest x left) (sym f)
     (subst (λ x. BeginsEither drive bucket one two log also start begun which lock pass points latest records x) (sym g) is))))))
 
--- no store goes on over the one log
+-- No store continues over the chosen log.
 pub neither-by : {D : Type 0} (drive : D → Drive) (one two : Seen) (log also : LogView D) (first second : D) (which : Which) → MayGoOn which (chosen_of which one two) (other_of which one two)
     → chosen_of which first second ≡ (chosen_of which log also).disk → (why : EitherCause)
     → CameOf (other_of which log also).cells why (drive (other_of which log also).disk) (drive (other_of which first second)) → KeepsOrClears (drive (other_of which log also).disk) (drive (other_of which first second))

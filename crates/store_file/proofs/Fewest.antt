@@ -1,4 +1,4 @@
--- The leaves that fit a bucket size are the fewest of which none could be split for it.
+-- The leaves that fit a bucket size are the fewest that have no leaf to split for that size.
 use Rattle.std.proofs.Common.{◌≡◌, ℕ, suc, ◌≤◌, Bool, true, false, not, List, [], ◌∷◌, ◌++◌, length, map, cond, refl, sym, ◌∙◌, ap, subst, arith, append_assoc, length-append}
 use Rattle.std.proofs.lemmas.List.{length-map}
 use Rattle.std.specs.Cmp.{first_so, second_so}
@@ -13,7 +13,7 @@ use Rattle.plain_list.specs.State.{split_leaf, ComesBySplits}
 use Rattle.point_table.specs.Sized.{FitsSize}
 use Rattle.log_compact.proofs.Forest.{Forest, none, leaf, split, ComesBy, forest_of}
 
--- a name has a child, of any width
+-- A name has at least one child, for any width.
 some_bits : (w : ℕ) → 1 ≤ length (bit_lists w)
 some_bits zero = omega arith
 some_bits (suc w) =
@@ -24,21 +24,21 @@ some_bits (suc w) =
       length-map (bit_lists w) (λ (bits : List Bool). false ∷ bits),
     )
 
--- so leaves are no fewer than the roots that they stand under
+-- So there are at least as many leaves as roots above them.
 no_fewer : (w : ℕ) (roots leaves inner : List (List Bool)) → Forest w roots leaves inner → length roots ≤ length leaves
 no_fewer w _ _ _ none = omega arith
 no_fewer w _ _ _ (leaf n roots leaves inner f) = omega (arith, no_fewer w roots leaves inner f)
 no_fewer w _ _ _ (split n roots leaves inner f) =
     omega (arith, no_fewer w (children w n ++ roots) leaves inner f, length-append (children w n) roots, length-map (bit_lists w) (λ bits. n ++ bits), some_bits w)
 
--- none of these passes a test
+-- None of these names passes a test.
 abbrev NonePass : (List Bool → Bool) → List (List Bool) → Type 0
 NonePass test names = IsTrue (list_all (λ name. not (test name)) names)
 
--- A name that passes a test which no leaf passes: where it is a root, it was split on the way. So the leaves stand under the roots after
--- its split too.
+-- A name that passes a test which no leaf passes. If the name is a root, it was split. So the leaves also come by
+-- splits from the roots after its split.
 module _ (w : ℕ) (test : List Bool → Bool) (name : List Bool) (passes : test name ≡ true) where
-  -- some roots may stand before those among which it is looked for
+  -- Some roots may come before those in which the name is looked up.
   split-behind : (all leaves inner : List (List Bool)) → Forest w all leaves inner → NonePass test leaves → (front roots : List (List Bool)) → all ≡ front ++ roots
       → ComesBy w (front ++ split_leaf w name roots) leaves
   split-behind _ _ _ none low [] roots e = subst (λ (l : List (List Bool)). ComesBy w (split_leaf w name l) []) e ([], none)
@@ -77,14 +77,14 @@ module _ (w : ℕ) (test : List Bool → Bool) (name : List Bool) (passes : test
       subst (λ (m : List Bool). ComesBy w (m ∷ front ++ split_leaf w name roots) leaves) first
       (n ∷ behind.0, split n (front ++ split_leaf w name roots) leaves behind.0 behind.1)
 
--- and after the splits of any names that pass it
+-- The same after the splits of any names that pass the test.
 splits-behind : (w : ℕ) (test : List Bool → Bool) (leaves : List (List Bool)) → NonePass test leaves → (names : List (List Bool)) → AllByRecursion (λ name. IsTrue (test name)) names
     → (roots : List (List Bool)) → ComesBy w roots leaves → ComesBy w (fold (λ (ls : List (List Bool)) name. split_leaf w name ls) roots names) leaves
 splits-behind w test leaves low [] pass roots by = by
 splits-behind w test leaves low (name ∷ names) pass roots by =
     splits-behind w test leaves low names pass.1 (split_leaf w name roots) (split-behind w test name pass.0 roots leaves by.0 by.1 low [] roots refl)
 
--- no other leaves that come by splits, of which none could be split for its size, are fewer
+-- Other leaves that come by splits, with no leaf to split for that size, aren't fewer.
 pub fewest : (w size : ℕ) (world : World) (leaves other : List (List Bool)) → FitsSize w size world leaves → ComesBySplits w other → IsSized w size world other
     → length leaves ≤ length other
 fewest w size world leaves other fits by sized =

@@ -1,4 +1,4 @@
--- A file that is attached, made a log of, and opened.
+-- A file that is attached and opened, after a log was created in it if it was small.
 use Rattle.std.proofs.Common.{◌≡◌, ◌⊎◌, inl, inr, ⊎_elim, ◌∙◌, ℕ, ◌<◌, ◌≤◌, true, false, Bool, List, [], length, Some, is_some, refl, sym, ap, subst, lit≤, arith}
 use Rattle.std.specs.Prelude.{Err, nat_lt}
 use Rattle.std.proofs.lemmas.List.{append-nil}
@@ -50,7 +50,7 @@ weaker a b P Q all only = record {
   before = λ t c le left. ⊎_elim (λ was. inl was) (λ now. inr (all c now)) (only.before t c le left);
 }
 
--- a log of no cells
+-- If a log has no cells, a crash leaves none.
 no-cells : (w : ℕ) (drive : Drive) → IsLog w [] drive → (c : List ℕ) → drive.images c → Recovers w [] c
 no-cells w drive log c left = record { version = newest; known = inr refl; holds = leaves-log w [] drive log c left; legal = refl }
 
@@ -65,7 +65,7 @@ no-cells-told w drive log = record {
 no-cells-newest : (w : ℕ) (drive : Drive) (log : IsLog w [] drive) → IsNewest log.bytes
 no-cells-newest w drive log = index_version newest w [] log.bytes (record { front = log.bytes; rest = []; parts = sym (append-nil log.bytes); text = log.text })
 
--- calls that leave the file
+-- Calls that leave the file unchanged.
 module _ (w : ℕ) (a b : Drive) (laws : KeepsLaws a) (stays : Stays a b) where
   pub file-stays : KeepsFile w a b
   file-stays = record {
@@ -92,7 +92,7 @@ module _ (w : ℕ) (a b : Drive) (laws : KeepsLaws a) (stays : Stays a b) where
       by_moment t x (inl was) = inl (stays.since t x was)
       by_moment t x (inr now) = inr (stays.images x now)
 
-  -- a log is made behind them, or the drive fails in that
+  -- After these calls a log is created, or the drive fails while it is created.
   file-small : (c : Drive) → KeepsSmall b c → KeepsFile w a c
   file-small c keeps = record {
     in_use = λ bytes told long. by_use c bytes (keeps.in_use bytes (stays.bytes ∙ told) long);
@@ -104,7 +104,7 @@ module _ (w : ℕ) (a b : Drive) (laws : KeepsLaws a) (stays : Stays a b) where
       by_use : (c : Drive) (bytes : List ℕ) → Stays b c → KeepsCells w a c
       by_use c bytes also text cells known now = leaves-stays a c (Recovers w cells) laws now (stays-trans a b c stays also)
 
--- a file that wasn't attached
+-- A file that wasn't attached.
 pub attach-refused : {T : Type 0} (w : ℕ) (file : List ℕ) (a b : Drive) (fault : AttachFault) → KeepsLaws a → Stays a b → CountsAttach {T = T} file true a b (Err fault) → NotOpens w file a b (attach_cause fault)
 attach-refused w file a b attach.Disk laws stays counts = record {
   why = counts.failed refl;
@@ -131,7 +131,7 @@ pub attach-free : {T : Type 0} (file : List ℕ) (a b : Drive) (fault : AttachFa
 attach-free file a b attach.Disk counts = inr (counts.failed refl)
 attach-free file a b attach.Memory counts = inl refl
 
--- a file that was attached, whose log is looked at, and made where it is small
+-- A file that was attached. Its log is looked at, and created if the file is small.
 module _ (w : ℕ) (file : List ℕ) (a b c : Drive) (laws : KeepsLaws a) (stays : Stays a b) (calm : b.faults ≡ a.faults) (one : AttachedOne file true a b) (small : KeepsSmall b c) where
   still : AttachedOne file true a c
   still = attached-still file true a b c one small.file
@@ -178,7 +178,7 @@ module _ (w : ℕ) (file : List ℕ) (a b c : Drive) (laws : KeepsLaws a) (stays
   pub init-rose : FailsToMake b c → Rose a.faults c.faults
   init-rose fails = rose-earlier a.faults b.faults c.faults (omega (arith, calm)) fails.rose
 
--- one that was attached, whose log wasn't opened
+-- The file was attached, but its log wasn't opened.
 open-attached : (file : List ℕ) (a c : Drive) (why : OpenFault) → AttachedOne file true a c → IsAttached file a c (open_cause why)
 open-attached file a c log.NotLog one = one
 open-attached file a c (log.OldLog version width) one = one
@@ -187,12 +187,12 @@ open-attached file a c (log.TooLong most) one = one
 open-attached file a c log.Disk one = one
 open-attached file a c log.Memory one = inl one
 
--- where the bytes recover to few enough cells of the newest version, what is told of them is free
+-- If the bytes recover to cells of the newest version, and these aren't too many, the bytes don't decide the fault.
 pub opened-free : (w : ℕ) (b c : Drive) (why : OpenFault) → IsWidth w → RefusesWanted (Some w) most_cells b c why
     → (bytes : List ℕ) (cells : List Cell) → b.bytes ≡ Some bytes → Recovers w cells bytes → IsNewest bytes → length cells ≤ most_cells → IsFree b c why
 opened-free w b c why known refused bytes cells told recovers named few = refused.fault.whole w bytes cells refl known told recovers (newest_wanted _ named) few
 
--- what is opened behind that
+-- What the opening after that leaves.
 module _ (w : ℕ) (file : List ℕ) (a b c : Drive) (laws : KeepsLaws a) (readies : ReadiesLog w file a b) where
   up : a.faults ≤ b.faults
   up = omega (arith, readies.calm)
@@ -206,7 +206,7 @@ module _ (w : ℕ) (file : List ℕ) (a b c : Drive) (laws : KeepsLaws a) (readi
         (weaker b c (Recovers w []) (IsUnmade w) (λ x is. inr is) (keeps made.bytes [] made.told (no-cells w b made)));
   }
 
-  -- the log that is opened is a good one, where the file is
+  -- If the file can be opened, so can its log.
   module _ (why : OpenFault) (whole : (bytes : List ℕ) (cells : List Cell) → b.bytes ≡ Some bytes → Recovers w cells bytes → IsNewest bytes → length cells ≤ most_cells → IsFree b c why) where
     small-free : (bytes : List ℕ) → a.bytes ≡ Some bytes → IsSmall bytes → IsFree b c why
     small-free bytes told is =
@@ -219,7 +219,7 @@ module _ (w : ℕ) (file : List ℕ) (a b c : Drive) (laws : KeepsLaws a) (readi
         whole good.bytes is.0 same is.1 is.2 is.3) (small-free good.bytes good.told) (small-or-long good.bytes)) good.good
 
     module _ (leaves : LeavesUnopened (Some w) most_cells b c why) where
-      -- a log of no cells shows no fault
+      -- A log of no cells shows no fault.
       small-shows : IsInBytes why → ((bytes : List ℕ) → b.bytes ≡ Some bytes → IsFault newest (Some w) most_cells bytes why) → (bytes : List ℕ) → a.bytes ≡ Some bytes → IsSmall bytes → ⊥
       small-shows in_bytes fault bytes told is =
           let made = readies.small bytes told is in
@@ -259,12 +259,12 @@ module _ (w : ℕ) (file : List ℕ) (a b c : Drive) (laws : KeepsLaws a) (readi
         attached = open-attached file a c why (attached-still file true a b c readies.attached leaves.file);
       }
 
-  -- what is free for the log is for the file
+  -- If the bytes don't decide the fault of the log, they don't decide the cause for the file.
   pub free-cause : (why : OpenFault) → IsFree b c why → IsFreeCause a c (open_cause why)
   free-cause why (inl memory) = inl (ap open_cause memory)
   free-cause why (inr rose) = inr (rose-earlier a.faults b.faults c.faults up rose)
 
-  -- a fault that bytes show is told as it is
+  -- A fault that the bytes show is reported unchanged.
   pub told-as : (fault : OpenFault) → IsInBytes fault → open_cause fault ≡ Log fault
   told-as log.NotLog in_bytes = refl
   told-as (log.OldLog version width) in_bytes = refl
@@ -277,7 +277,7 @@ module _ (w : ℕ) (file : List ℕ) (a b c : Drive) (laws : KeepsLaws a) (readi
   exact-cause why fault in_bytes (inl same) = inl (ap open_cause same ∙ told-as fault in_bytes)
   exact-cause why fault in_bytes (inr free) = inr (free-cause why free)
 
--- memory ran out once the log was open
+-- Memory ran out after the log was opened.
 pub memory-refused : (w : ℕ) (file : List ℕ) (a start now : Drive) (seen : Seen) → KeepsLaws a → OpensFile w file a start now seen → NotOpens w file a now Memory
 memory-refused w file a start now seen laws opens =
     let readies = opens.readies in

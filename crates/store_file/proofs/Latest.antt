@@ -1,4 +1,4 @@
--- The latest moment of objects, looked for from the first to the last.
+-- The latest moment of objects, looked up from the first object to the last.
 use Rattle.std.proofs.Common.{◌≡◌, ◌⊎◌, inl, inr, ⊎_elim, ◌∙◌, ℕ, ◌≤◌, Bool, true, false, [], ◌∷◌, Option, Some, None, refl, sym, arith}
 use Rattle.std.specs.Prelude.{max, nat_lt}
 use Rattle.std.proofs.lemmas.Bool.{ltb-true, ltb-false}
@@ -6,13 +6,13 @@ use Rattle.plain_list.specs.declared.world.Member.{Member}
 use Rattle.plain_list.specs.World.{World}
 use Rattle.store_file.specs.Objects.{HasMoment, HasNoneLater, IsLatest, later}
 
--- what is found behind objects whose latest moment this is
+-- The latest moment of all objects, if the first argument is that of the objects before the rest.
 abbrev pub IsLatestBehind : Option ℕ → World → Option ℕ → Type 0
 IsLatestBehind None rest found = IsLatest rest found
 IsLatestBehind (Some before) rest None = ⊥
 IsLatestBehind (Some before) rest (Some moment) = ((before ≡ moment) ⊎ HasMoment moment rest) × (before ≤ moment) × HasNoneLater moment rest
 
--- behind none of the rest
+-- If no objects are left, it is the latest moment so far.
 pub latest-end : (latest : Option ℕ) → IsLatestBehind latest [] latest
 latest-end None = refl
 latest-end (Some before) = (inl refl, omega arith, tt)
@@ -24,7 +24,7 @@ max-either a b = by_test (nat_lt a b) refl
     by_test true is = let lt = ltb-true a b is in inr (omega (arith, lt))
     by_test false is = let le = ltb-false a b is in inl (omega (arith, le))
 
--- one object more
+-- One object more.
 pub latest-more : (latest : Option ℕ) (m : Member) (rest : World) (found : Option ℕ) → IsLatestBehind (Some (later latest m.moment)) rest found → IsLatestBehind latest (m ∷ rest) found
 latest-more None m rest None is = absurd is
 latest-more None m rest (Some moment) is = (is.0, (is.1, is.2))

@@ -1,4 +1,4 @@
--- A book over a file that goes on with an empty history.
+-- A book over a file that continues with an empty history.
 use Rattle.std.proofs.Common.{◌≡◌, ◌∙◌, ℕ, ◌+◌, true, List, length, Option, Some, None, is_some, refl, sym, ap, subst}
 use Rattle.std.specs.Prelude.{⊤}
 use mathlib.Core.Bool.{true≢false}
@@ -24,7 +24,7 @@ use Rattle.sessions.specs.Renewals.{IsRenewedOrigin, IsRenewed, cells_where_at}
 use Rattle.store_file.specs.Opened.{first_pass}
 use Rattle.store_file.specs.Rotated.{IsBookKept}
 
--- A book that is kept, and goes on with an empty history.
+-- A book that is returned, and continues with an empty history.
 module _ {D : Type 0} (drive : D → Drive) (w : ℕ) (b : BookView D) (is_book : IsBook drive w b) where
   cells-counted : (s : State) (h : List Entry) (log : Option (KeptView D)) → KeepsIn drive w s h log
       → option_map (λ (start : LogStart). start.cells) (option_map (start_in drive) (option_map renewed_log log))
@@ -52,7 +52,7 @@ module _ {D : Type 0} (drive : D → Drive) (w : ℕ) (b : BookView D) (is_book 
           pass_is = is ∙ ap (first_pass lock) (sym origin);
         }
 
-  -- it has a world, and a log
+  -- The renewed book has a world, and a log.
   pub renewed-world : HasWorld b → IsWorld (renewed w b).opening.world
   renewed-world has = subst IsWorld (sym (state_after-world w b.opening b.entries)) has.world
 

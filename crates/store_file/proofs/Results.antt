@@ -1,8 +1,8 @@
--- What follows of what comes out.
+-- What follows from the values that a result has.
 use Rattle.std.proofs.Common.{Result, Ok, Err}
 use Rattle.std.specs.Prelude.{IfOk, IfErr}
 
--- what holds of each value that comes out
+-- What holds of each value that a result may have.
 pub ok-with : {A B : Type 0} (P Q : A → Type 0) → ((a : A) → P a → Q a) → (r : Result A B) → IfOk r P → IfOk r Q
 ok-with P Q each (Ok a) is = each a is
 ok-with P Q each (Err e) is = tt

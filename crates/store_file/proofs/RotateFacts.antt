@@ -1,4 +1,4 @@
--- A store that goes on over a second file.
+-- A store that continues over a second file.
 use Rattle.std.proofs.Common.{◌≡◌, ◌∙◌, ℕ, ◌≤◌, true, Bool, List, [], length, Option, Some, None, is_some, refl, sym, ap, subst}
 use Rattle.std.specs.Prelude.{⊤}
 use Rattle.std.specs.Option.{option_map}
@@ -49,11 +49,11 @@ use Rattle.store_file.specs.Rotated.{world_left, leaves_left, cells_left, AreLef
 use Rattle.store_file.specs.Rotated.{BeginsFresh, GoesOn, GoesAlone, GoesNot, LeavesView, Finishes, FinishesAlone, FinishesNot}
 use Rattle.store_file.proofs.StoreFacts as stores
 
--- cells stay where nothing is done
+-- If no call is made, the cells are kept.
 pub keeps-here : (w : ℕ) (drive : Drive) → KeepsLaws drive → KeepsCells w drive drive
 keeps-here w drive laws bytes cells told now = started drive (Recovers w cells) laws now
 
--- a log that stands as it was found, without any call, was opened
+-- A log that an opening would find counts as opened, without any call.
 pub opened-here : (w : ℕ) (drive : Drive) (seen : Seen) → KeepsLaws drive → StandsFound w seen drive → IsOpened w (found_state seen) drive drive
 opened-here w drive seen laws stands = record {
   state = λ bytes first told recovers.
@@ -70,7 +70,7 @@ opened-here w drive seen laws stands = record {
   told = refl;
 }
 
--- a fresh log was begun
+-- A fresh log was begun.
 module _ {D : Type 0} (drive : D → Drive) (laws : (d : D) → KeepsLaws (drive d)) (width w : ℕ) (width_is : width ≡ w) (spare : D) (seen found : Seen) (fresh : IsFresh width seen) (same : found ≡ seen) (start : D)
     (log : LogView D) (at : start ≡ log.disk) (counts : log.cells ≡ found.cells) (failed : log.failed ≡ None) (stands : StandsFound width found (drive log.disk))
     (compacted : IsCompacted width (fresh_cells width seen.world seen.leaves) (drive spare) (drive log.disk))
@@ -100,11 +100,11 @@ module _ {D : Type 0} (drive : D → Drive) (laws : (d : D) → KeepsLaws (drive
       (subst (λ (s : Seen). BeginsFresh drive w spare s log.disk log) (sym same)
       (subst (λ (n : ℕ). BeginsFresh drive n spare seen log.disk log) width_is begins-at))
 
--- the leaves anew are those of the size
+-- The new leaves are those that the bucket size requires.
 pub of-size : {D : Type 0} (w : ℕ) (b : BookView D) (leaves : List Leaf) (seen : Seen) → HasContentAnew w b leaves seen → AreOfSize w b seen.leaves
 of-size w b leaves seen content = subst (FitsSize w b.bucket (world_after b.opening.world b.entries)) (sym content.leaves_are) content.stands.fits
 
--- none was begun
+-- No fresh log was begun.
 pub not-anew : {D : Type 0} (drive : D → Drive) (width w : ℕ) → width ≡ w → (Are : List (List Bool) → Type 0) (failed : Option ℕ) (world : World) → failed ≡ None → (spare left : D) (seen : Seen)
     → seen.world ≡ world → Are seen.leaves → (fault : CompactFault) → RefusesCompact (drive spare) (drive left) fault
     → KeepsOnWay width (fresh_cells width seen.world seen.leaves) (drive spare) (drive left) → NotBegins drive w Are failed world spare left (begin_cause fault)
@@ -121,7 +121,7 @@ not-anew drive width w width_is Are failed world good spare left seen world_is a
     by_fault (compact.InUse len) not = (good, not)
     by_fault compact.Disk not = (good, not)
 
--- a refusal for leaves of one kind is one for leaves of another kind, where these are also those; where no append has failed it isn't that one has
+-- A refusal for leaves of one kind is a refusal for another kind, if all leaves of the first are of the second.
 module _ {D : Type 0} (drive : D → Drive) (w : ℕ) (Are Also : List (List Bool) → Type 0) (each : (leaves : List (List Bool)) → Are leaves → Also leaves) (world : World) (spare left : D) where
   also-anew : (fault : CompactFault) → NotAnew drive w Are world spare left fault → NotAnew drive w Also world spare left fault
   also-anew fault not = record { leaves = not.leaves; leaves_are = each not.leaves not.leaves_are; refuses = not.refuses; on_way = not.on_way }
@@ -139,7 +139,8 @@ module _ {D : Type 0} (drive : D → Drive) (w : ℕ) (Are Also : List (List Boo
   also-begins failed (none_begun.Refused c) not = also-refuses failed c not
   also-begins failed none_begun.Unsure not = also-unsure failed not
 
--- a log as it stands has its drive, and no append of it has failed where the history says so
+-- The view of a kept log has its drive and its number of cells. If no append of the history failed, the view has none
+-- that failed.
 module _ {D : Type 0} where
   pub drive-in : (log : Option (KeptView D)) (view : LogView D) → log_in log ≡ Some view → disk_in log ≡ Some view.disk
   drive-in None view is = absurd (true≢false (sym (ap is_some is)))
@@ -157,17 +158,17 @@ module _ {D : Type 0} where
   whole-in drive w s h None view keeps good is = absurd (true≢false (sym (ap is_some is)))
   whole-in drive w s h (Some log) view keeps good is = ap (λ (v : LogView D). v.failed) (sym (same_Some _ _ is)) ∙ keeps.failed ∙ good
 
--- a log that was handed out was emptied
+-- The result of clearing a log that was returned.
 pub leaves-view : {D : Type 0} (drive : D → Drive) (Came : ℕ → Drive → Drive → Type 0) (log : Option (LogView D)) (view : LogView D) (left : D) → log ≡ Some view → Came view.cells (drive view.disk) (drive left)
     → KeepsOrClears (drive view.disk) (drive left) → LeavesView drive Came log left
 leaves-view drive Came log view left is came keeps = record { view = view; view_is = is; came = came; keeps = keeps }
 
--- a book over a log starts so
+-- A book with a log starts as a store over a file requires.
 pub starts-over : {D : Type 0} (drive : D → Drive) (log : Option (KeptView D)) → is_some log ≡ true → StartsAs drive ⊥ (λ d. ⊤) log
 starts-over drive None is = absurd (true≢false (sym is))
 starts-over drive (Some log) is = tt
 
--- a book went on over another log
+-- A book continues over another log.
 module _ {D : Type 0} (drive : D → Drive) (b new : BookView D) (seen : Seen) (log : LogView D) (start : D) (is : new ≡ rotated seen log start b) (counts : log.cells ≡ seen.cells) where
   pub new-origin : origin_of drive new ≡ found_origin b.bucket seen (drive start)
   new-origin = ap (origin_of drive) is ∙ stores.found-origin drive b.bucket seen (rotated seen log start b) (first_log log start) refl refl refl counts
@@ -190,7 +191,7 @@ module _ {D : Type 0} (drive : D → Drive) (b new : BookView D) (seen : Seen) (
   pub new-starts : StartsAs drive ⊥ (λ d. ⊤) new.log
   new-starts = subst (StartsAs drive ⊥ (λ d. ⊤)) (sym new-log) tt
 
--- and what becomes of it, where its log so far is emptied; with the leaves that it had, or others
+-- What happens to that book when its old log is emptied. It has its old leaves, or new ones.
 module _ {D : Type 0} (drive : D → Drive) (old new : BookView D) (leaves : List Leaf) (seen : Seen) (log : LogView D) (start : D) (is : new ≡ rotated seen log start (record old { leaves = leaves }))
     (counts : log.cells ≡ seen.cells) (world : seen.world ≡ world_after old.opening.world old.entries) (has : HasWorld old) (h : List Entry) (out : Option (LogView D)) (h_is : h ≡ old.entries)
     (out_is : out ≡ log_in old.log) where
@@ -233,7 +234,7 @@ module _ {D : Type 0} (drive : D → Drive) (old new : BookView D) (leaves : Lis
   goes-not (back.Uncleared book entries left) on = alone-now (λ count. FailsToClear) entries book left on
   goes-not (back.Memory book entries left) on = alone-now Clears entries book left on
 
--- a store was closed, and a fresh log of it was begun
+-- A store was closed, and a fresh log of it was begun.
 module _ {D : Type 0} (drive : D → Drive) (w : ℕ) (b : BookView D) (old : Known) (is_book : IsBook drive w b) (value : (b.entries ≡ old.seen) × (origin_of drive b ≡ old.origin))
     (own : (p : ℕ) → times p old.own ≡ once_below p (length old.seen)) (starts : StartsAs drive ⊥ (λ d. ⊤) b.log) (has : HasWorld b) where
   opening-is : b.opening ≡ start_of old.origin
@@ -269,7 +270,7 @@ module _ {D : Type 0} (drive : D → Drive) (w : ℕ) (b : BookView D) (old : Kn
   book-back {I = I} {P = P} Are spare left (none_begun.Refused c) e not is = subst (λ (x : NotRotated I D P). IsNotRotated drive w Are old spare x) (sym is) (book-kept Are spare left c not)
   book-back {I = I} {P = P} Are spare left none_begun.Unsure e not is = subst (λ (x : NotRotated I D P). IsNotRotated drive w Are old spare x) (sym is) (book-unsure Are spare left not)
 
-  -- the leaves of the book are those that the history left, and the size is that of the origin
+  -- The leaves of the book are those that the history left. The bucket size is that of the origin.
   pub left-as : (leaves : List (List Bool)) → AreOfBook w b leaves → AreLeft w old.origin old.seen leaves
   left-as leaves are = are ∙ leaves-as
 

@@ -40,7 +40,7 @@ use Rattle.store_file.specs.Closed.{ClosesStore}
 use Rattle.store_file.specs.Renewed.{HasLogBack}
 use Rattle.store_file.proofs.FileFacts.{small-or-long, no-cells-told}
 
--- a book over a log has its drive
+-- A book over a log has a drive.
 module _ {D : Type 0} where
   pub has-drive : (log : Option (KeptView D)) → is_some log ≡ true → is_some (disk_in log) ≡ true
   has-drive None is = absurd (true≢false (sym is))
@@ -50,19 +50,19 @@ module _ {D : Type 0} where
   has-log drive unlogged Is None logged starts = absurd (logged starts)
   has-log drive unlogged Is (Some log) logged starts = refl
 
--- so has one that comes back of a store over a file
+-- A book that is returned from a store over a file has a log.
 pub log-back : {I D P : Type 0} (drive : D → Drive) (e : NotRenewed I D P) → StartsBack drive ⊥ (λ d. ⊤) ⊥ (λ d. ⊤) e → HasLogBack e
 log-back drive (renewing.Kept book cause) starts = has-log drive ⊥ (λ d. ⊤) book.log (λ none. none) starts
 log-back drive (renewing.Memory book entries) starts = has-log drive ⊥ (λ d. ⊤) book.log (λ none. none) starts
 
--- what a book leaves that was closed
+-- What a closed book leaves.
 module _ {D : Type 0} (drive : D → Drive) (w : ℕ) (unlogged : Type 0) (Is : Drive → Type 0) (b : BookView D) (pass : Known) (entries : List Entry) (disk : D) (is_book : IsBook drive w b)
     (value : (b.entries ≡ pass.seen) × (origin_of drive b ≡ pass.origin)) (own : (p : ℕ) → times p pass.own ≡ once_below p (length pass.seen)) (logged : unlogged → ⊥) (starts : StartsAs drive unlogged Is b.log)
     (entries_are : entries ≡ b.entries) (disk_is : disk_in b.log ≡ Some disk) where
   began-at : b.opening ≡ start_of pass.origin
   began-at = (λ i. record { world = b.opening.world; leaves = b.opening.leaves; splits = is_book.opening.rests i; begun = b.opening.begun }) ∙ ap start_of value.1
 
-  -- the log has as many cells
+  -- The log has the same number of cells.
   cells-by-log : (log : Option (KeptView D)) → b.log ≡ log → (closed : ClosesStore drive w Is pass entries disk) × (closed.log.cells ≡ cells_in log)
   cells-by-log None is = absurd (logged (subst (StartsAs drive unlogged Is) is starts))
   cells-by-log (Some log) is = (
@@ -86,7 +86,7 @@ module _ {D : Type 0} (drive : D → Drive) (w : ℕ) (unlogged : Type 0) (Is : 
   pub closes-store : ClosesStore drive w Is pass entries disk
   closes-store = closes-counted.0
 
--- a book over what was found begins as that did
+-- A book over what was found begins with it.
 module _ {D : Type 0} (drive : D → Drive) (bucket : ℕ) (seen : Seen) (b : BookView D) (log : KeptView D) (opening : b.opening ≡ found_state seen) (sized : b.bucket ≡ bucket) (log_is : b.log ≡ Some log) where
   pub found-world : IsWorld seen.world → IsWorld b.opening.world
   found-world is = subst IsWorld (sym (ap (λ (s : State). s.world) opening)) is
@@ -107,7 +107,7 @@ module _ {D : Type 0} (drive : D → Drive) (bucket : ℕ) (seen : Seen) (b : Bo
     bucket = sized i;
   }
 
--- what was found is what the cells of the log leave
+-- What was found is what the cells of the log leave.
 pub cells-found : (w bucket : ℕ) (old start : Drive) (seen : Seen) (found : IsFound newest w most_cells old seen) → found_origin bucket seen start ≡ cells_origin w bucket found.cells start
 cells-found w bucket old start seen found = λ i. record {
   world = found.finds.world i;
@@ -117,7 +117,7 @@ cells-found w bucket old start seen found = λ i. record {
   bucket = bucket;
 }
 
--- a store over a file that was opened
+-- A store over a file that was opened.
 module _ {D : Type 0} (drive : D → Drive) (w bucket : ℕ) (file : List ℕ) (old : Drive) (start : D) (now : Drive) (seen : Seen) (opens : OpensFile w file old (drive start) now seen) where
   pub in-old : (bytes : List ℕ) → old.bytes ≡ Some bytes → FindsCells w opens.found.cells bytes
   in-old bytes told = ⊎_elim
@@ -152,7 +152,7 @@ module _ {D : Type 0} (drive : D → Drive) (w bucket : ℕ) (file : List ℕ) (
         records_are = begins.records_are ∙ opens.found.finds.count;
       }
 
--- a book may go on with its log
+-- A book may continue with its log.
 pub opened-log : {D : Type 0} (drive : D → Drive) (w : ℕ) (file : List ℕ) (old : Drive) (start : D) (seen : Seen) (log : LogView D) → OpensFile w file old (drive start) (drive log.disk) seen
     → (log.cells ≡ seen.cells) × (log.failed ≡ None) → IsOpenedLog drive w seen start log
 opened-log drive w file old start seen log opens (counts, good) = record {
@@ -162,11 +162,11 @@ opened-log drive w file old start seen log opens (counts, good) = record {
   ready = opened-found w most_cells (drive start) (drive log.disk) seen opens.found opens.ready opens.keeps;
 }
 
--- such a pass may call, and close the store
+-- Such a pass may call, and may close the store.
 pub is-first : (lock : TableId) (origin : Origin) (pass : Known) → pass ≡ first_pass lock origin → IsFirst lock pass
 is-first lock origin pass is = record { lock_is = ap (λ (k : Known). k.lock) is; off = ap (λ (k : Known). k.holds) is; parts = ap (λ (k : Known). k.parts) is }
 
--- a file isn't opened, where a bucket may have the size
+-- If a bucket may have this size, a refusal of the file is a refusal of the store.
 pub refuses-store : {D : Type 0} (drive : D → Drive) (w bucket : ℕ) (file : List ℕ) (disk back : D) (c : OpenCause) → is_bucket bucket ≡ true → NotOpens w file (drive disk) (drive back) c → RefusesStore drive w bucket file disk back c
 refuses-store drive w bucket file disk back cause.Bucket is not = absurd not.why
 refuses-store drive w bucket file disk back cause.Attach is not = (is, not)

@@ -1,4 +1,4 @@
--- As what the faults of files and logs are told.
+-- The causes that faults of files and logs are reported as.
 use Rattle.disk_trait.specs.declared.disk.AttachFault.{AttachFault}
 use Rattle.disk_trait.specs.declared.disk.AttachFault.TheVariants as attach
 use Rattle.recovery.specs.declared.seen.OpenFault.{OpenFault}
@@ -6,12 +6,12 @@ use Rattle.recovery.specs.declared.seen.OpenFault.TheVariants as log
 use Rattle.store_file.specs.declared.faults.OpenCause.{OpenCause}
 use Rattle.store_file.specs.declared.faults.OpenCause.TheVariants.{Attach, Disk, Log, Memory}
 
--- a file that wasn't attached
+-- The cause if a file wasn't attached.
 abbrev pub attach_cause : AttachFault → OpenCause
 attach_cause attach.Disk = Attach
 attach_cause attach.Memory = Memory
 
--- a log that wasn't opened: what its bytes show is told as it is
+-- The cause if a log wasn't opened. A fault that its bytes show is reported unchanged.
 abbrev pub open_cause : OpenFault → OpenCause
 open_cause log.Disk = Disk
 open_cause log.Memory = Memory

@@ -9,9 +9,9 @@ use Rattle.book_lock.specs.Own.{times, once_below}
 use Rattle.book_lock.specs.Pass.{Known}
 use Rattle.sessions.specs.Shared.{start_in, start_of}
 
--- The history is what the last pass has seen, all of it its own, and legal from the origin. The log keeps it since the opening, whose
--- drive the fact holds of: while no append has failed, the file is the text of the cells that stood first and of the history's, and a
--- crash leaves that.
+-- The history is what the last pass has seen. All of it is the pass's own, and it is legal from the origin. The log has
+-- kept it since the opening, and the fact held of the drive at that moment. If no append has failed, the file is the
+-- text of the first cells and of the history's. A crash leaves that text.
 pub record ClosesStore {D : Type 0} (drive : D → Drive) (w : ℕ) (Is : Drive → Type 0) (pass : Known) (entries : List Entry) (disk : D) : Type 0 where
   pub entries_are : entries ≡ pass.seen
   pub own : (p : ℕ) → times p pass.own ≡ once_below p (length pass.seen)

@@ -1,4 +1,4 @@
--- The log in a file, made where there is none, and opened.
+-- The log in a file, which is created if there is none, and opened.
 use Rattle.std.specs.Prelude.{◌≡◌, ◌⊎◌, ℕ, ◌<◌, ◌≤◌, true, List, [], length, Some, is_some}
 use Rattle.cell_format.specs.declared.cell.Cell.{Cell}
 use Rattle.cell_format.specs.Spelling.{newest}
@@ -15,17 +15,18 @@ use Rattle.recovery.specs.Found.{IsFound, IsNewest}
 use Rattle.recovery.specs.Making.{IsSmall}
 use Rattle.recovery.specs.Opening.{IsReady, KeepsCells}
 
--- a small file, or a log of no cells: what a crash may leave while a log is made of a small file, and opened
+-- A small file, or a log of no cells. A crash may leave this while a small file becomes a log and is opened.
 abbrev pub IsUnmade : ℕ → List ℕ → Type 0
 IsUnmade w bytes = IsSmall bytes ⊎ Recovers w [] bytes
 
--- A crash at any moment leaves the cells of a log that stood in the file. Of a small file, of which a log is made, it leaves a small one,
--- or a log of no cells.
+-- At any moment a crash leaves the cells of the log that was in the file. If the file was small, a log is created in
+-- it. A crash then leaves a small file, or a log of no cells.
 pub record KeepsFile (w : ℕ) (old new : Drive) : Type 0 where
   pub in_use : (bytes : List ℕ) → old.bytes ≡ Some bytes → 17 < length bytes → KeepsCells w old new
   pub small : (bytes : List ℕ) → old.bytes ≡ Some bytes → LeavesNow old IsSmall → LeavesOnly old new (IsUnmade w)
 
--- A file was attached, and has a log: a small one was made a log of no cells, and a longer one is as it was. No device call failed.
+-- A file was attached, and has a log. A small file became a log of no cells, and a longer one is unchanged. No device
+-- call failed.
 pub record ReadiesLog (w : ℕ) (file : List ℕ) (old start : Drive) : Type 0 where
   pub attached : AttachedOne file true old start
   pub calm : start.faults ≡ old.faults
@@ -35,18 +36,18 @@ pub record ReadiesLog (w : ℕ) (file : List ℕ) (old start : Drive) : Type 0 w
   pub small : (bytes : List ℕ) → old.bytes ≡ Some bytes → IsSmall bytes → IsLog w [] start
   pub keeps : KeepsFile w old start
 
--- its log was opened, with at most so many cells as a log may have
+-- The log of the file was opened. It has at most as many cells as a log may have.
 pub record OpensFile (w : ℕ) (file : List ℕ) (old start now : Drive) (seen : Seen) : Type 0 where
   pub readies : ReadiesLog w file old start
   pub found : IsFound newest w most_cells start seen
   pub ready : IsReady w seen start now
   pub keeps : KeepsCells w start now
 
--- the cells that are found in bytes: none in those of a small file
+-- The cells that are found in bytes. In the bytes of a small file there are none.
 abbrev pub FindsCells : ℕ → List Cell → List ℕ → Type 0
 FindsCells w cells bytes = (IsSmall bytes × (cells ≡ [])) ⊎ ((17 < length bytes) × Recovers w cells bytes)
 
--- a file's bytes show this fault: they are more than 17, and no log that may be gone on with
+-- The bytes of a file show this fault. They are more than 17, and no log that a store may continue with.
 pub record ShowsFault (w : ℕ) (drive : Drive) (fault : OpenFault) : Type 0 where
   pub bytes : List ℕ
   pub told : drive.bytes ≡ Some bytes
@@ -54,11 +55,12 @@ pub record ShowsFault (w : ℕ) (drive : Drive) (fault : OpenFault) : Type 0 whe
   pub in_bytes : IsInBytes fault
   pub is : IsFault newest (Some w) most_cells bytes fault
 
--- they are few, so that a log is made of them, or recover to cells, few enough, in the newest version
+-- Bytes that can be opened. Either the file is small, so a log is created in it. Or the bytes recover to cells in the
+-- newest version, and these aren't too many for a log.
 abbrev pub IsGoodFile : ℕ → List ℕ → Type 0
 IsGoodFile w bytes = IsSmall bytes ⊎ ((cells : List Cell) × Recovers w cells bytes × IsNewest bytes × (length cells ≤ most_cells))
 
--- its bytes are known, and good
+-- The bytes of the file are known, and can be opened.
 pub record CanOpen (w : ℕ) (drive : Drive) : Type 0 where
   pub bytes : List ℕ
   pub told : drive.bytes ≡ Some bytes

@@ -14,17 +14,17 @@ use Rattle.sessions.specs.Steps.{all_parts}
 use Rattle.store_file.specs.Files.{ReadiesLog, FindsCells}
 use Rattle.store_file.specs.Objects.{IsLatest}
 
--- the pass that has all parts of a store of this origin, and has seen nothing yet
+-- The pass that has all parts of a store with this origin, and has seen nothing yet.
 abbrev pub first_pass : TableId → Origin → Known
 first_pass lock origin = record { lock = lock; seen = []; own = []; origin = origin; parts = all_parts; holds = false }
 
--- it may call, and close the store
+-- The pass may call, and may close the store.
 pub record IsFirst (lock : TableId) (pass : Known) : Type 0 where
   pub lock_is : pass.lock ≡ lock
   pub off : pass.holds ≡ false
   pub parts : pass.parts ≡ all_parts
 
--- the origin of a store over what was found in a log, on the drive as it was then
+-- The origin of a store over what was found in a log. `start` is the drive at that moment.
 abbrev pub found_origin : ℕ → Seen → Drive → Origin
 found_origin bucket seen start = record {
   world = seen.world;
@@ -34,7 +34,7 @@ found_origin bucket seen start = record {
   bucket = bucket;
 }
 
--- the same by the cells of the log
+-- The same origin, computed from the cells of the log.
 abbrev pub cells_origin : ℕ → ℕ → List Cell → Drive → Origin
 cells_origin w bucket cells start = record {
   world = (state_of w cells).world;
@@ -44,7 +44,7 @@ cells_origin w bucket cells start = record {
   bucket = bucket;
 }
 
--- a store over what was found in a log, the numbers of that, and the pass
+-- A store over what was found in a log, with its first pass. The numbers are those of what was found.
 pub record BeginsOver {D : Type 0} (drive : D → Drive) (bucket : ℕ) (seen : Seen) (start : D) (lock : TableId) (pass : Known) (points : ℕ) (latest : Option ℕ) (records : ℕ) : Type 0 where
   pub pass_is : pass ≡ first_pass lock (found_origin bucket seen (drive start))
   pub world : IsWorld seen.world
@@ -52,7 +52,7 @@ pub record BeginsOver {D : Type 0} (drive : D → Drive) (bucket : ℕ) (seen : 
   pub latest_is : IsLatest seen.world latest
   pub records_are : records ≡ seen.cells
 
--- The cells of the log, which are those of the file, where its bytes are known, and none where it was small.
+-- The cells of the log. They are those of the file, if its bytes are known, and none if the file was small.
 pub record FindsLog (w : ℕ) (cells : List Cell) (old start : Drive) : Type 0 where
   pub legal : IsLegalCells w cells
   pub few : length cells ≤ most_cells
@@ -60,8 +60,8 @@ pub record FindsLog (w : ℕ) (cells : List Cell) (old start : Drive) : Type 0 w
   pub recovers : (bytes : List ℕ) → start.bytes ≡ Some bytes → Recovers w cells bytes
   pub newest : (bytes : List ℕ) → start.bytes ≡ Some bytes → IsNewest bytes
 
--- A store was opened over a file: it begins with what the cells of its log leave, on the drive as it was when the log was opened. The pass
--- has all parts, and the numbers are those of the objects and the cells.
+-- A store was opened over a file. It begins with what the cells of its log leave, on the drive at the opening of the
+-- log. The pass has all parts, and the numbers are those of the objects and the cells.
 pub record OpensStore {D : Type 0} (drive : D → Drive) (w bucket : ℕ) (file : List ℕ) (old : Drive) (lock : TableId) (pass : Known) (points : ℕ) (latest : Option ℕ) (records : ℕ) : Type 0 where
   pub start : D
   pub readies : ReadiesLog w file old (drive start)

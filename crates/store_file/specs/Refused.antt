@@ -13,15 +13,15 @@ use Rattle.store_file.specs.declared.faults.OpenCause.{OpenCause}
 use Rattle.store_file.specs.declared.faults.OpenCause.TheVariants.{Bucket, Attach, Disk, Log, Memory}
 use Rattle.store_file.specs.Files.{KeepsFile}
 
--- whether a bucket may have this size
+-- Whether a bucket may have this size.
 abbrev pub is_bucket : ℕ → Bool
 is_bucket bucket = nat_le 4 bucket && nat_le bucket 4096
 
--- a cause that the bytes don't decide: memory ran out, or the count of faults rose
+-- A cause that the bytes don't decide: memory ran out, or the fault count rose.
 abbrev pub IsFreeCause : Drive → Drive → OpenCause → Type 0
 IsFreeCause old new cause = (cause ≡ Memory) ⊎ Rose old.faults new.faults
 
--- the drive failed
+-- The causes of a drive that failed.
 abbrev pub IsOfDrive : OpenCause → Type 0
 IsOfDrive Bucket = ⊥
 IsOfDrive Attach = ⊤
@@ -29,13 +29,14 @@ IsOfDrive Disk = ⊤
 IsOfDrive (Log fault) = ⊥
 IsOfDrive Memory = ⊥
 
--- A fault of a log: it is one that bytes show, and where the drive's are known, they are more than 17, and it is the first that they show.
+-- A fault of a log that its bytes show. If the bytes of the drive are known, they are more than 17, and this is their
+-- first fault.
 pub record IsShown (w : ℕ) (drive : Drive) (fault : OpenFault) : Type 0 where
   pub in_bytes : IsInBytes fault
   pub may : MayTell newest (Some w) most_cells fault
   pub shows : (bytes : List ℕ) → drive.bytes ≡ Some bytes → (17 < length bytes) × IsFault newest (Some w) most_cells bytes fault
 
--- why there is no store over a file, where a bucket may have the size that was asked for
+-- Why there is no store over a file, if the bucket size is allowed.
 abbrev pub IsCause : ℕ → Drive → Drive → OpenCause → Type 0
 IsCause w old new Bucket = ⊥
 IsCause w old new Attach = Rose old.faults new.faults
@@ -43,8 +44,8 @@ IsCause w old new Disk = Rose old.faults new.faults
 IsCause w old new (Log fault) = IsShown w old fault
 IsCause w old new Memory = ⊤
 
--- Which file is the one then: where this one wasn't attached, the one before, which is as it was; this one, where the drive failed
--- behind that, or its bytes are at fault; and where memory ran out, either.
+-- Which file the drive has after a refusal. If this file wasn't attached, the drive has the file before, unchanged. If
+-- the drive failed after that, or the bytes have a fault, it has this file. If memory ran out, it has either.
 abbrev pub IsAttached : List ℕ → Drive → Drive → OpenCause → Type 0
 IsAttached file old new Bucket = ⊥
 IsAttached file old new Attach = SameFile old new × Stays old new
@@ -52,8 +53,9 @@ IsAttached file old new Disk = AttachedOne file true old new
 IsAttached file old new (Log fault) = AttachedOne file true old new
 IsAttached file old new Memory = AttachedAtMost file true old new
 
--- What that leaves: a crash at any moment leaves what stood in the file, a long file that is no log is left as it was, the count of faults
--- is, but where the drive failed, and no device call was made behind one that failed. No other file was attached.
+-- What a refusal leaves. At any moment a crash leaves what was in the file. A long file that is no log is unchanged.
+-- The fault count rises only if the drive failed, and no device call follows one that failed. No other file was
+-- attached.
 pub record NotOpens (w : ℕ) (file : List ℕ) (old new : Drive) (cause : OpenCause) : Type 0 where
   pub why : IsCause w old new cause
   pub keeps : KeepsFile w old new
@@ -64,7 +66,7 @@ pub record NotOpens (w : ℕ) (file : List ℕ) (old new : Drive) (cause : OpenC
   pub calls : StopsAtFault old new
   pub attached : IsAttached file old new cause
 
--- Where the size of a bucket is wrong, the drive is as it was.
+-- If the bucket size is wrong, the drive is unchanged. Otherwise the refusal leaves what `NotOpens` says.
 abbrev pub RefusesStore : {D : Type 0} → (D → Drive) → ℕ → ℕ → List ℕ → D → D → OpenCause → Type 0
 RefusesStore drive w bucket file disk back Bucket = (is_bucket bucket ≡ false) × (back ≡ disk)
 RefusesStore drive w bucket file disk back Attach = (is_bucket bucket ≡ true) × NotOpens w file (drive disk) (drive back) Attach

@@ -1,4 +1,5 @@
--- A store that goes on over a second file, in which its objects were written as a fresh log, with its leaves as they were or anew.
+-- A store that continues over a second file. Its objects were written there as a fresh log, with its leaves or with new
+-- ones.
 use Rattle.std.specs.Prelude.{◌≡◌, ℕ, ◌<◌, ◌≤◌, true, Bool, List, [], length, Option, Some, None, is_some, ⊤}
 use Rattle.atomic_table.specs.Seated.{TableId}
 use Rattle.cell_format.specs.declared.cell.Cell.{Cell}
@@ -35,38 +36,38 @@ use Rattle.store_file.specs.Closed.{ClosesStore}
 use Rattle.point_table.specs.Sized.{FitsSize}
 use Rattle.store_file.specs.Opened.{first_pass, cells_origin, found_origin}
 
--- the objects that a history left, and the names of the leaves
+-- The objects that a history left, and the names of the leaves.
 abbrev pub world_left : Origin → List Entry → World
 world_left origin seen = world_after origin.world seen
 
 abbrev pub leaves_left : ℕ → Origin → List Entry → List (List Bool)
 leaves_left w origin seen = (state_after w (start_of origin) seen).leaves
 
--- the cells of a fresh log of these objects, with such leaves
+-- The cells of a fresh log of these objects, with such leaves.
 abbrev pub cells_left : ℕ → Origin → List Entry → List (List Bool) → List Cell
 cells_left w origin seen leaves = fresh_cells w (world_left origin seen) leaves
 
--- the leaves that a history left, or those that the bucket size asks of the objects that it left
+-- The leaves that a history left, or those that the bucket size requires for the objects that it left.
 abbrev pub AreLeft : ℕ → Origin → List Entry → List (List Bool) → Type 0
 AreLeft w origin seen leaves = leaves ≡ leaves_left w origin seen
 
 abbrev pub AreAnew : ℕ → Origin → List Entry → List (List Bool) → Type 0
 AreAnew w origin seen leaves = FitsSize w origin.bucket (world_left origin seen) leaves
 
--- the same of a book
+-- The same for a book.
 abbrev pub AreOfBook : {D : Type 0} → ℕ → BookView D → List (List Bool) → Type 0
 AreOfBook w b leaves = leaves ≡ (state_after w b.opening b.entries).leaves
 
 abbrev pub AreOfSize : {D : Type 0} → ℕ → BookView D → List (List Bool) → Type 0
 AreOfSize w b leaves = FitsSize w b.bucket (world_after b.opening.world b.entries) leaves
 
--- A store goes on from where this pass saw its history end. The first log is closed, as it stands on the drive then: no append has failed,
--- and it keeps the history. Then only is the other one begun: it was written on the second drive as a fresh log of the objects that the
--- history left, with such leaves, and is the one that the store begins with, whose objects and leaves are those. At each moment a crash
--- leaves of the second file what was on the way, and nothing but these cells from the end of the writing on.
+-- A store continues from the place where this pass saw its history end. The first log is closed: no append has failed,
+-- and it keeps the history. Only then was the second log begun, as a fresh log of the objects that the history left,
+-- with such leaves. The new store begins with that log. At each moment of the writing a crash leaves an image on the
+-- way to the fresh log. After the writing it leaves exactly these cells.
 pub record RotatesTo {D : Type 0} (drive : D → Drive) (w : ℕ) (Are : List (List Bool) → Type 0) (old : Known) (entries : List Entry) (last spare : D) (origin : Origin) (count : ℕ) : Type 0 where
   pub closed : ClosesStore drive w (λ start. ⊤) old entries last
-  -- so many cells the first log has
+  -- The number of cells that the first log has.
   pub counted : closed.log.cells ≡ count
   pub good : failed_cell old.seen ≡ None
   pub start : D
@@ -79,12 +80,12 @@ pub record RotatesTo {D : Type 0} (drive : D → Drive) (w : ℕ) (Are : List (L
   pub leaves_are : Are origin.leaves
   pub world : IsWorld origin.world
 
--- What came of the clearing of a log of so many cells. At each moment a crash leaves all of them, or none.
+-- The result of clearing a log of `count` cells. At each moment a crash leaves all of them, or none.
 pub record LeavesLog {D : Type 0} (drive : D → Drive) (Came : ℕ → Drive → Drive → Type 0) (count : ℕ) (last left : D) : Type 0 where
   pub came : Came count (drive last) (drive left)
   pub keeps : KeepsOrClears (drive last) (drive left)
 
--- The store, its first pass, the history of the one before, and the drive of the first log, which has no cells any more.
+-- The new store, its first pass, and the history of the old store. The log of the first drive no longer has any cells.
 pub record IsRotated {D : Type 0} (drive : D → Drive) (w : ℕ) (Are : List (List Bool) → Type 0) (old : Known) (entries : List Entry) (spare : D) (lock : TableId) (pass : Known) (left : D) : Type 0 where
   pub last : D
   pub count : ℕ
@@ -92,7 +93,7 @@ pub record IsRotated {D : Type 0} (drive : D → Drive) (w : ℕ) (Are : List (L
   pub pass_is : pass ≡ first_pass lock pass.origin
   pub leaves : LeavesLog drive Clears count last left
 
--- The book alone, which goes on over the second log, and has no entries.
+-- Only the book, which continues over the second log, and has no entries.
 pub record IsRotatedAlone {D : Type 0} (drive : D → Drive) (w : ℕ) (Are : List (List Bool) → Type 0) (Came : ℕ → Drive → Drive → Type 0) (old : Known) (entries : List Entry) (spare : D) (b : BookView D) (left : D) : Type 0 where
   pub last : D
   pub count : ℕ
@@ -102,55 +103,59 @@ pub record IsRotatedAlone {D : Type 0} (drive : D → Drive) (w : ℕ) (Are : Li
   pub logged : is_some b.log ≡ true
   pub leaves : LeavesLog drive Came count last left
 
--- the book as it was
+-- The unchanged book.
 pub record IsBookKept {D : Type 0} (drive : D → Drive) (old : Known) (b : BookView D) : Type 0 where
   pub entries_are : b.entries ≡ old.seen
   pub origin_is : origin_of drive b ≡ old.origin
   pub has : HasWorld b
   pub logged : is_some b.log ≡ true
 
--- what a fault of the fresh log is told as
+-- The cause that a fault of the fresh log is reported as.
 abbrev pub begin_cause : CompactFault → BeginCause
 begin_cause (compact.InUse len) = begun.Refused (InUse len)
 begin_cause compact.Disk = begun.Unsure
 
--- a fresh log wasn't written for this fault: the file is longer than 17 bytes, and was left as it was, or the drive failed
+-- A fresh log wasn't written, because of this fault. Either the file has more than 17 bytes and is unchanged, or the
+-- drive failed.
 pub record NotAnew {D : Type 0} (drive : D → Drive) (w : ℕ) (Are : List (List Bool) → Type 0) (world : World) (spare left : D) (fault : CompactFault) : Type 0 where
   pub leaves : List (List Bool)
   pub leaves_are : Are leaves
   pub refuses : RefusesCompact (drive spare) (drive left) fault
   pub on_way : KeepsOnWay w (fresh_cells w world leaves) (drive spare) (drive left)
 
--- the fresh log of the objects with such leaves would have more cells than a log may
+-- The fresh log of the objects with such leaves would have more cells than a log may have.
 pub record IsTooLong (w : ℕ) (Are : List (List Bool) → Type 0) (world : World) : Type 0 where
   pub leaves : List (List Bool)
   pub leaves_are : Are leaves
   pub many : most_cells < length (fresh_cells w world leaves)
 
--- Why a store of this world doesn't go on over the second drive with such leaves, whose append failed where one did, though nothing was
--- written there: an append of it has failed; they are too many for a log; memory ran out; or its file is longer than a log of no cells.
+-- Why a store doesn't continue over the second drive, on which nothing was written. Either an append of the store has
+-- failed, or memory ran out. Or the objects and leaves are too many for a log. Or the second file is longer than a log
+-- of no cells.
 abbrev pub RefusesAnew : {D : Type 0} → (D → Drive) → ℕ → (List (List Bool) → Type 0) → Option ℕ → World → D → D → RotateCause → Type 0
 RefusesAnew drive w Are failed world spare left (Closed cell) = (failed ≡ Some cell) × (left ≡ spare)
 RefusesAnew drive w Are failed world spare left Memory = (failed ≡ None) × (left ≡ spare)
 RefusesAnew drive w Are failed world spare left TooLong = (failed ≡ None) × (left ≡ spare) × IsTooLong w Are world
 RefusesAnew drive w Are failed world spare left (InUse len) = (failed ≡ None) × NotAnew drive w Are world spare left (compact.InUse len)
 
--- The second drive failed. At each moment a crash leaves there what is on the way to the fresh log, which may be all of it.
+-- The second drive failed. At each moment a crash leaves an image on the way to the fresh log there, which may be the
+-- whole log.
 abbrev pub IsUnsure : {D : Type 0} → (D → Drive) → ℕ → (List (List Bool) → Type 0) → Option ℕ → World → D → D → Type 0
 IsUnsure drive w Are failed world spare left = (failed ≡ None) × NotAnew drive w Are world spare left compact.Disk
 
--- the one or the other
+-- Either of the two: a refusal, or a failure of the second drive.
 abbrev pub NotBegins : {D : Type 0} → (D → Drive) → ℕ → (List (List Bool) → Type 0) → Option ℕ → World → D → D → BeginCause → Type 0
 NotBegins drive w Are failed world spare left (begun.Refused cause) = RefusesAnew drive w Are failed world spare left cause
 NotBegins drive w Are failed world spare left begun.Unsure = IsUnsure drive w Are failed world spare left
 
--- the book comes back with the second drive, as the cause is
+-- The book and the second drive are returned, as the cause says.
 abbrev pub ComesBack : {I D P : Type 0} → BookView D → D → BeginCause → NotRotated I D P → Type 0
 ComesBack b left (begun.Refused cause) e = e ≡ back.Kept b left cause
 ComesBack b left begun.Unsure e = e ≡ back.Unsure b left
 
--- What comes back where no store does: the book as it was, over its log, and the second drive, which was left alone, or failed; or the book
--- over the second log, where the drive of the first one failed while its log was cleared, or memory ran out once it was.
+-- What is returned if there is no store. Either it is the unchanged book over its log, and the second drive, which is
+-- unchanged or failed. Or it is the book over the second log: the first drive failed while its log was cleared, or
+-- memory ran out after that.
 abbrev pub IsNotRotated : {I D P : Type 0} → (D → Drive) → ℕ → (List (List Bool) → Type 0) → Known → D → NotRotated I D P → Type 0
 IsNotRotated drive w Are old spare (back.Kept book left cause) =
     IsBookKept drive old book × RefusesAnew drive w Are (failed_cell old.seen) (world_left old.origin old.seen) spare left cause
@@ -159,7 +164,7 @@ IsNotRotated drive w Are old spare (back.Unsure book left) =
 IsNotRotated drive w Are old spare (back.Uncleared book entries left) = IsRotatedAlone drive w Are (λ count. FailsToClear) old entries spare book left
 IsNotRotated drive w Are old spare (back.Memory book entries left) = IsRotatedAlone drive w Are Clears old entries spare book left
 
--- A fresh log was begun on this drive: what its opening finds, the drive as it was then, and the log.
+-- A fresh log was begun on this drive. `seen` is what its opening finds, and `start` is the drive at that moment.
 pub record BeginsFresh {D : Type 0} (drive : D → Drive) (w : ℕ) (spare : D) (seen : Seen) (start : D) (log : LogView D) : Type 0 where
   pub finds : Finds w (fresh_cells w seen.world seen.leaves) seen
   pub few : length (fresh_cells w seen.world seen.leaves) ≤ most_cells
@@ -168,31 +173,32 @@ pub record BeginsFresh {D : Type 0} (drive : D → Drive) (w : ℕ) (spare : D) 
   pub compacted : IsCompacted w (fresh_cells w seen.world seen.leaves) (drive spare) (drive start)
   pub on_way : KeepsOnWay w (fresh_cells w seen.world seen.leaves) (drive spare) (drive start)
 
--- That of what a book has.
+-- The fresh log is that of the objects and leaves of a book.
 pub record BeginsAsIs {D : Type 0} (drive : D → Drive) (w : ℕ) (b : BookView D) (spare : D) (seen : Seen) (start : D) (log : LogView D) : Type 0 where
   pub good : failed_cell b.entries ≡ None
   pub content : HasContent w b seen
   pub begins : BeginsFresh drive w spare seen start log
 
--- That of its objects, with leaves anew.
+-- The fresh log is that of the objects of a book, with new leaves.
 pub record BeginsAnew {D : Type 0} (drive : D → Drive) (w : ℕ) (b : BookView D) (spare : D) (leaves : List Leaf) (seen : Seen) (start : D) (log : LogView D) : Type 0 where
   pub good : failed_cell b.entries ≡ None
   pub content : HasContentAnew w b leaves seen
   pub begins : BeginsFresh drive w spare seen start log
 
--- What came of the log of a book.
+-- The result of clearing the log of a book.
 pub record LeavesOf {D : Type 0} (drive : D → Drive) (Came : ℕ → Drive → Drive → Type 0) (b : BookView D) (left : D) : Type 0 where
   pub last : D
   pub last_is : disk_in b.log ≡ Some last
   pub leaves : LeavesLog drive Came (cells_in b.log) last left
 
--- A store goes on from a book over another log, in which this was found on a drive as it was then, and the log so far was cleared.
+-- A store continues from a book over another log, and the old log was cleared. `seen` was found in the other log, and
+-- `start` is its drive at that moment.
 pub record GoesOn {D : Type 0} (drive : D → Drive) (b : BookView D) (seen : Seen) (start : D) (entries : List Entry) (lock : TableId) (pass : Known) (left : D) : Type 0 where
   pub entries_are : entries ≡ b.entries
   pub pass_is : pass ≡ first_pass lock (found_origin b.bucket seen (drive start))
   pub leaves : LeavesOf drive Clears b left
 
--- A book does so alone.
+-- A book alone continues in the same way.
 pub record GoesAlone {D : Type 0} (drive : D → Drive) (Came : ℕ → Drive → Drive → Type 0) (b : BookView D) (seen : Seen) (start : D) (entries : List Entry) (new : BookView D) (left : D) : Type 0 where
   pub entries_are : entries ≡ b.entries
   pub origin_is : origin_of drive new ≡ found_origin b.bucket seen (drive start)
@@ -207,20 +213,20 @@ GoesNot drive b seen start (back.Unsure book left) = ⊥
 GoesNot drive b seen start (back.Uncleared book entries left) = GoesAlone drive (λ count. FailsToClear) b seen start entries book left
 GoesNot drive b seen start (back.Memory book entries left) = GoesAlone drive Clears b seen start entries book left
 
--- what came of a log that was handed out
+-- The result of clearing a log that was returned.
 pub record LeavesView {D : Type 0} (drive : D → Drive) (Came : ℕ → Drive → Drive → Type 0) (log : Option (LogView D)) (left : D) : Type 0 where
   pub view : LogView D
   pub view_is : log ≡ Some view
   pub came : Came view.cells (drive view.disk) (drive left)
   pub keeps : KeepsOrClears (drive view.disk) (drive left)
 
--- A store is made of a book, once the log was cleared that was handed out, and the history beside it.
+-- A store was created from a book, after the old log was cleared. The history is returned with it.
 pub record Finishes {D : Type 0} (drive : D → Drive) (b : BookView D) (h : List Entry) (log : Option (LogView D)) (entries : List Entry) (lock : TableId) (pass : Known) (left : D) : Type 0 where
   pub entries_are : entries ≡ h
   pub pass_is : pass ≡ first_pass lock (origin_of drive b)
   pub leaves : LeavesView drive Clears log left
 
--- None is, and the book comes back.
+-- No store was created, and the book is returned.
 pub record FinishesAlone {D : Type 0} (drive : D → Drive) (Came : ℕ → Drive → Drive → Type 0) (b : BookView D) (h : List Entry) (log : Option (LogView D)) (entries : List Entry) (new : BookView D) (left : D) : Type 0 where
   pub entries_are : entries ≡ h
   pub book_is : new ≡ b

@@ -12,17 +12,19 @@ use index_layer::Index;
 use plain_list::Entries;
 use sessions::{SharedBook, Start, Store};
 
-/// What is left of a store over a file.
+/// What is left of a store over a file after its close.
 #[derive(Drop)]
 pub struct ClosedStore<D: Drop> {
-    /// The history since the opening.
+    /// The history since the opening, or since the last renewal or rotation.
     pub entries: Entries,
-    /// The record whose append failed, where one did. The log may have it, and takes no more until it is opened again.
+    /// The record whose append failed, if one failed, counted from 0. The log may have this record. It takes no more
+    /// records until it is opened again.
     pub lost: Option<u64>,
     pub disk: D,
 }
 
-/// Ends a store over a file. Each change that a caller was told of is in its log.
+/// Ends a store over a file. Each change that a call reported as done is in its log. The file stays attached to the
+/// drive, so drop the drive before another one opens the file.
 pub fn close_store<I: Index, D: LogDisk>(
     store: Store<I, D, OverFile>,
     pass: Pass<SharedBook<I, D, OverFile>>,
@@ -36,7 +38,8 @@ pub fn close_store<I: Index, D: LogDisk>(
     close_over::<I, D, OverFile>(store, pass)
 }
 
-/// The same of a store with a fact of the drive, which a book without a log doesn't have.
+/// The same for a store with a fact about its drive (`Start`), if no book without a log has that fact. The contract
+/// says that the fact held of the drive when its log was opened.
 pub fn close_over<I: Index, D: LogDisk, O: Start>(
     store: Store<I, D, O>,
     pass: Pass<SharedBook<I, D, O>>,

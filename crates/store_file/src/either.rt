@@ -25,53 +25,58 @@ use sessions::{SharedBook, Store};
 use split_log::SplitLog;
 use std::alloc::Global;
 
-/// One of two files.
+/// Names one of two files, in the order in which the caller passed them.
 #[derive(Clone, Copy, Debug, PartialEq, Eq)]
 pub enum Which {
     First,
     Second,
 }
 
-/// A store that was opened over one of two files, and the pass that has all parts of it.
+/// A store that was opened over one of two files, and the pass that has all its parts.
 pub struct OpenedEither<I: Index, D: LogDisk> {
     pub store: Store<I, D, OverFile>,
     pub pass: Pass<SharedBook<I, D, OverFile>>,
-    /// How many objects there are.
+    /// The number of objects that the store begins with.
     pub points: u64,
-    /// The latest moment of any of them.
+    /// The latest moment of any of these objects, or `None` if there are none.
     pub latest: Option<u64>,
-    /// How many records the log has.
+    /// The number of records in the log of the store.
     pub records: u64,
-    /// The drive of the other file, which has an empty log.
+    /// The drive of the other file. Its log is empty, so it is ready for a rotation.
     pub spare: D,
-    /// The file that the store goes on over.
+    /// The file that the store continues over.
     pub which: Which,
 }
 
-// The logs of both files, as they were opened.
+// The logs of both files, after they were opened.
 struct Both<D: LogDisk> {
     one: Opened<D>,
     two: Opened<D>,
 }
 
-// A store over one log, and the drive of the other one.
+// A store over one log, and the drive of the other log.
 struct Taken<I: Index, D: LogDisk> {
     opened: OpenedStore<I, D, OverFile>,
     spare: D,
 }
 
-// Both drives, where there is no store.
+// Both drives, if there is no store.
 struct NotTaken<D: LogDisk> {
     chosen: D,
     other: D,
     cause: EitherCause,
 }
 
-/// Opens a store over the log in one of two files, between which it may have been rotated: over the one that has records. Where both have
-/// some, a crash came between, and they leave the same objects: then the store goes on over the log with fewer. The other log is made
-/// empty. Each file is made where it isn't there, and its log where the file has at most 17 bytes.
+/// Opens a store over one of two files, between which a store may have been rotated. It continues over the file that
+/// has records, and empties the log of the other. Each file is created if it doesn't exist, and its log if the file has
+/// at most 17 bytes.
 ///
-/// One name for both files is refused. Two names of one file are only refused by its lock, so the caller sees to it that they are two files.
+/// If a crash came during a rotation, both files may have records that leave the same objects. The store then continues
+/// over the log with fewer records. Two files that leave different objects are refused (`Differ`), and keep their
+/// records.
+///
+/// One name for both files is refused. If two names mean one file, only the lock of that file refuses the second
+/// opening. So pass two different files.
 pub fn open_either<I: Index, D: LogDisk>(
     alloc: Global,
     first: D,
@@ -120,7 +125,7 @@ pub fn open_either<I: Index, D: LogDisk>(
     }
 }
 
-// Goes on over the one of two logs that were opened.
+// Continues over one of two logs that were opened.
 fn go_on_over_either<I: Index, D: LogDisk>(
     alloc: Global,
     both: Both<D>,
@@ -218,7 +223,7 @@ fn open_both<D: LogDisk>(
     }
 }
 
-// The log that is gone on with, where the other one has no cells, or both leave the same objects.
+// Chooses the log to continue with. There is one if a log has no cells, or if both leave the same objects.
 fn choose(one: &Seen, two: &Seen) -> Option<Which>
     ensures { Chooses one.now two.now result }
 {
@@ -244,7 +249,7 @@ fn is_same_world(one: &World, two: &World) -> bool
     one.as_slice() == two.as_slice()
 }
 
-// Empties the one log, and begins a store over the other one.
+// Empties the second log, and begins a store over the first one.
 fn go_on_over<I: Index, D: LogDisk>(
     alloc: Global,
     chosen: Opened<D>,

@@ -1,4 +1,4 @@
-//! Why no store is opened.
+//! Why no store was opened.
 ghost use Rattle.std.specs.Prelude.{◌≡◌};
 ghost use Rattle.store_file.specs.Causes.{attach_cause, open_cause};
 
@@ -6,26 +6,28 @@ use disk_trait::AttachFault;
 use recovery::OpenFault;
 use thiserror::Error;
 
-/// Why no store was opened.
+/// Why no store was opened over a file. Whatever the cause is, a crash leaves the records that the file had.
 #[derive(Clone, Copy, Debug, PartialEq, Eq, Error)]
 pub enum OpenCause {
-    /// The size of a bucket isn't from 4 to 4,096. Nothing was asked of the drive.
+    /// The bucket size isn't from 4 to 4,096. The drive was not called.
     #[error("the size of a bucket isn't from 4 to 4,096")]
     Bucket,
-    /// The drive failed to open the file, or to make it.
+    /// The drive failed to open the file, or to create it. The drive keeps the file that it had before.
     #[error("the file can't be opened or made")]
     Attach,
-    /// The drive failed once the file was open.
+    /// The drive failed after the file was attached.
     #[error("the drive failed")]
     Disk,
-    /// What is in the file isn't a log that can be gone on with.
+    /// The file has more than 17 bytes, which aren't a log that the store can continue with. `fault` is the first fault
+    /// in the bytes.
     #[error("{fault}")]
     Log { fault: OpenFault },
+    /// Memory ran out. The drive has the new file, or the file that it had before.
     #[error("out of memory")]
     Memory,
 }
 
-/// The drive back, and why no store was opened over its file.
+/// The drive, returned, and why no store was opened over its file.
 #[derive(Drop)]
 pub struct NotOpened<D: Drop> {
     pub disk: D,
@@ -35,29 +37,31 @@ pub struct NotOpened<D: Drop> {
 /// Why no store was opened over either of two files.
 #[derive(Clone, Copy, Debug, PartialEq, Eq, Error)]
 pub enum EitherCause {
-    /// The size of a bucket isn't from 4 to 4,096. Nothing was asked of the drives.
+    /// The bucket size isn't from 4 to 4,096. Neither drive was called.
     #[error("the size of a bucket isn't from 4 to 4,096")]
     Bucket,
-    /// Both files have one name. Nothing was asked of the drives.
+    /// Both files have the same name. Neither drive was called.
     #[error("the two files have one name")]
     OneFile,
-    /// The first file wasn't opened. Nothing was asked of the second drive.
+    /// The first file wasn't opened. The second drive was not called.
     #[error("the first file: {cause}")]
     First { cause: OpenCause },
-    /// The second file wasn't opened, and the first was.
+    /// The second file wasn't opened, but the first was. The first file keeps its records.
     #[error("the second file: {cause}")]
     Second { cause: OpenCause },
-    /// Both files have records, which leave different objects.
+    /// Both files have records, which leave different objects. Both files keep their records.
     #[error("the two files have different objects")]
     Differ,
-    /// The drive of the file that isn't gone on with failed while its log was emptied.
+    /// A drive failed while the log of its file was emptied. A crash leaves all records of that log or none. The file
+    /// that was chosen keeps its records.
     #[error("a drive failed while its log was emptied")]
     Disk,
+    /// Memory ran out for the new store, after the other log was emptied. The file that was chosen keeps its records.
     #[error("out of memory")]
     Memory,
 }
 
-/// Both drives back, and why no store was opened over either file.
+/// Both drives, returned, and why no store was opened over either file.
 #[derive(Drop)]
 pub struct NotEither<D: Drop> {
     pub first: D,
@@ -65,7 +69,7 @@ pub struct NotEither<D: Drop> {
     pub cause: EitherCause,
 }
 
-/// What a file that wasn't attached is told as.
+/// The cause that is reported if a file wasn't attached.
 pub(crate) fn attach_cause(fault: AttachFault) -> OpenCause
     ensures { result ≡ attach_cause fault }
 {
@@ -75,7 +79,7 @@ pub(crate) fn attach_cause(fault: AttachFault) -> OpenCause
     }
 }
 
-/// What a log that wasn't opened is told as.
+/// The cause that is reported if a log wasn't opened.
 pub(crate) fn open_cause(fault: OpenFault) -> OpenCause
     ensures { result ≡ open_cause fault }
 {

@@ -1,4 +1,4 @@
-//! The log in a file, made where there is none, and opened.
+//! Opens the log in a file, and creates it if there is none.
 ghost use Rattle.std.specs.Prelude.{◌≡◌, ◌⊎◌, ◌<◌, None, IfOk, IfErr};
 ghost use Rattle.std.specs.Result.{IsErrAnd};
 ghost use Rattle.zorder.specs.Width.{IsWidth};
@@ -12,7 +12,8 @@ use recovery::{InitFault, InitRefused, OpenRefused, Opened, init, open};
 use split_log::MOST_CELLS;
 use std::alloc::Global;
 
-/// Opens the log of this width in a file, which is made where it isn't there, as the log is where the file has at most 17 bytes.
+/// Opens the log of this width in a file. The file is created if it doesn't exist, and the log if the file has at most
+/// 17 bytes.
 pub(crate) fn open_file<D: LogDisk>(
     alloc: Global,
     disk: D,
@@ -38,7 +39,7 @@ pub(crate) fn open_file<D: LogDisk>(
     }
 }
 
-// Attaches a file, and makes a log of it where it has at most 17 bytes.
+// Attaches a file, and creates a log in it if it has at most 17 bytes.
 fn ready_log<D: LogDisk>(
     alloc: Global,
     mut disk: D,

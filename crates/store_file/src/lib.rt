@@ -1,18 +1,22 @@
-//! A store over a log in a file: opened in one call, and closed in one.
+//! Opens and closes a store over a log in a file, and continues it with an empty history or over a second file.
 //!
-//! Contracts see the origin of an opened store as what the cells of its log leave (`OpensStore`): `open_store` makes the log where the
-//! file has at most 17 bytes, opens it, and tells how many objects and records it found, and the latest moment. Where it refuses, the
-//! drive comes back, with what is at fault, and a crash leaves what stood there (`NotOpens`). `close_store` gives the history that the
-//! last pass has seen, and the drive, whose log has that history's cells behind the first ones (`ClosesStore`). So the next opening
-//! begins with what the last close left (`finds-closed`, proofs/Again). `renew_store` goes on with an empty history.
+//! Contracts see what an opening finds as the origin of the store. It is what the cells of the log leave.
+//! - `open_store` creates the log if the file has at most 17 bytes, and opens it. It also returns the latest moment,
+//!   and how many objects and records it found (`OpensStore`). If it refuses, it returns the drive and the cause. A
+//!   crash then leaves what was in the file (`NotOpens`).
+//! - `close_store` returns the drive, and the history that the last pass has seen. If no append failed, the log has the
+//!   cells that the opening found, and then those of the history (`ClosesStore`). So the next opening begins with what
+//!   the last close left (`finds-closed`, proofs/Again).
+//! - `renew_store` continues over the same log with an empty history.
+//! - `rotate_store` continues over a second file. It writes the objects and the leaves there as a fresh log, and only
+//!   then empties the first log (`IsRotated`).
+//! - `rotate_anew` does the same with the leaves that the bucket size requires for the objects (`FitsSize`). No other
+//!   leaves that need no split are fewer (`fewest`, proofs/Fewest).
+//! - `open_either` opens both files, and continues over the one that has records (`OpensEither`). If a crash during a
+//!   rotation left records in both files, they leave the same objects. So the store begins with the objects that the
+//!   history left, wherever the crash came (`finds-left`, proofs/Between).
 //!
-//! `rotate_store` goes on over a second file: it writes the objects and the leaves there as a fresh log, and makes the first log empty only
-//! then (`IsRotated`). `rotate_anew` does so with the leaves that the bucket size asks of the objects (`FitsSize`), and no other ones that
-//! would do are fewer (`fewest`, proofs/Fewest). `open_either` opens both files, and goes on over the one that has records (`OpensEither`):
-//! where a crash in a rotation left some in both, these leave the same objects. So it begins with the objects that the history left, wherever
-//! the crash came (`finds-left`, proofs/Between).
-//!
-//! Not here: the calls of a store (`sessions`), and short ones (`store_client`).
+//! Not here: the calls of a store (`sessions`), and shorter calls (`store_client`).
 #![tactic(auto)]
 
 mod closing;

@@ -4,7 +4,7 @@ ghost use Rattle.store_file.specs.Objects.{IsLatest, later};
 
 use plain_list::Member;
 
-/// The latest moment of these objects, where there is one.
+/// The latest moment of these objects, if there are any.
 pub(crate) fn latest_of(members: &[Member]) -> Option<u64>
     ensures { IsLatest members.now result }
 {
@@ -15,7 +15,7 @@ pub(crate) fn latest_of(members: &[Member]) -> Option<u64>
     latest
 }
 
-// The later of two moments, where the first one is there.
+// The later of two moments, if there is a first one.
 fn later_of(latest: Option<u64>, moment: u64) -> u64
     ensures { result ≡ later latest moment }
 {

@@ -23,29 +23,30 @@ use recovery::Opened;
 use sessions::{SharedBook, Start, Store};
 use std::alloc::Global;
 
-/// A store that was opened over a file, and the pass that has all parts of it.
+/// A store that was opened over a file, and the pass that has all its parts.
 pub struct OpenedStore<I: Index, D: LogDisk, O: Start> {
     pub store: Store<I, D, O>,
     pub pass: Pass<SharedBook<I, D, O>>,
-    /// How many objects there are.
+    /// The number of objects that the store begins with.
     pub points: u64,
-    /// The latest moment of any of them.
+    /// The latest moment of any of these objects, or `None` if there are none.
     pub latest: Option<u64>,
-    /// How many records the log has.
+    /// The number of records in the log.
     pub records: u64,
 }
 
-/// The least size of a bucket.
+/// The least bucket size, in objects. A leaf with more objects than the bucket size is to be split.
 pub const LEAST_BUCKET: u32 = 4;
 
-/// The most.
+/// The greatest bucket size, in objects.
 pub const MOST_BUCKET: u32 = 4096;
 
-// A store of a book, and the pass that has all parts of it.
+// A store of a book, and the pass that has all its parts.
 type Shared<I, D, O> = (Store<I, D, O>, Pass<SharedBook<I, D, O>>);
 
-/// Opens a store over the log in a file, with buckets of this size, from 4 to 4,096. The file is made where it isn't there, and the log
-/// where the file has at most 17 bytes, as a crash in the making of one may leave it.
+/// Opens a store over the log in a file. The bucket size is from `LEAST_BUCKET` to `MOST_BUCKET` objects. The file is
+/// created if it doesn't exist, and its log if the file has at most 17 bytes. A crash while a log is created may leave
+/// such a file. A longer file that is no log stays unchanged.
 pub fn open_store<I: Index, D: LogDisk>(
     alloc: Global,
     disk: D,
@@ -65,7 +66,8 @@ pub fn open_store<I: Index, D: LogDisk>(
     open_over::<I, D, OverFile>(alloc, disk, file, bucket)
 }
 
-/// The same, with a fact of the drive as it is when its log is opened, which whoever closes the store is told again.
+/// The same, with a fact about the drive that holds when its log is opened. The contract of `close_over` has that fact
+/// again.
 pub fn open_over<I: Index, D: LogDisk, O: Start>(
     alloc: Global,
     disk: D,
@@ -102,7 +104,7 @@ pub(crate) fn is_bucket(bucket: u32) -> bool
     LEAST_BUCKET <= bucket && bucket <= MOST_BUCKET
 }
 
-// A store over a log as it was opened.
+// Begins a store over a log that was opened.
 pub(crate) fn store_of<I: Index, D: LogDisk, O: Start>(
     alloc: Global,
     opened: Opened<D>,
@@ -133,7 +135,7 @@ pub(crate) fn store_of<I: Index, D: LogDisk, O: Start>(
     }
 }
 
-// A store of a book that has a log. For want of memory the drive comes back.
+// Begins a store of a book that has a log. If memory runs out, it returns the drive.
 pub(crate) fn shared<I: Index, D: LogDisk, O: Start>(
     alloc: Global,
     book: Book<I, D>,

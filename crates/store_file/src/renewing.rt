@@ -1,4 +1,4 @@
-//! Goes on with a store over a file.
+//! Continues a store over its file with an empty history.
 ghost use Rattle.std.specs.Prelude.{◌≡◌, ℕ, length, true, false, is_some, IfOk, IfErr};
 ghost use Rattle.book_lock.specs.Own.{times, once_below};
 ghost use Rattle.sessions.specs.Renewals.{IsBack, IsRenewed, refusal_of, store_refusal};
@@ -18,8 +18,9 @@ use index_layer::Index;
 use sessions::{NotRenewed, Renewed, SharedBook, Store};
 use std::alloc::Global;
 
-/// Ends a store over a file, and begins one with an empty history where that one's ends, over the same log. Nothing is read or copied, and
-/// `Book::renew`, which does it, makes no device call. After a refusal the book's drive can be taken (`into_parts`) and its file opened again.
+/// Ends a store over a file, and begins one with an empty history over the same log. The new store has the objects and
+/// the leaves that the old history left. `Book::renew` does this without a device call, and nothing is read or copied.
+/// After a refusal the store has ended. Then take the drive from the book (`into_parts`), and open its file again.
 pub fn renew_store<I: Index, D: LogDisk>(
     alloc: Global,
     store: Store<I, D, OverFile>,
@@ -37,8 +38,8 @@ pub fn renew_store<I: Index, D: LogDisk>(
     store.renew::<OverFile>(alloc, pass)
 }
 
-/// Begins a store over a file with the book of one that has ended, as `renew_store` does. So a store goes on over its own file that a rotation
-/// left there (`NotRotated::Kept`).
+/// Begins a store over a file with the book of a store that has ended, as `renew_store` does. So a store continues over
+/// its own file after a refused rotation (`NotRotated::Kept`).
 pub fn renew_book<I: Index, D: LogDisk>(
     alloc: Global,
     book: Book<I, D>,

@@ -1,4 +1,4 @@
-//! Goes on with a store over a second file.
+//! Continues a store over a second file.
 ghost use Rattle.std.specs.Prelude.{◌≡◌, [], false, true, Some, None, is_some, IfOk, IfErr};
 ghost use Rattle.plain_list.specs.History.{world_after, failed_cell};
 ghost use Rattle.plain_list.specs.State.{ComesBySplits};
@@ -21,29 +21,30 @@ use sessions::{SharedBook, Store};
 use std::alloc::Global;
 use thiserror::Error;
 
-/// A store that goes on over a second file.
+/// A store that continues over a second file.
 pub struct Rotated<I: Index, D: LogDisk> {
     pub store: Store<I, D, OverFile>,
-    /// The pass that has all parts of it.
+    /// The pass that has all its parts.
     pub pass: Pass<SharedBook<I, D, OverFile>>,
-    /// The history of the store before.
+    /// The history of the store that ended.
     pub entries: Entries,
-    /// The drive of the first file, which has an empty log.
+    /// The drive of the first file. Its log is empty, so it is ready for the next rotation.
     pub spare: D,
 }
 
-/// Why a store doesn't go on over a second file. Nothing was done to its log, and nothing was written to the second file.
+/// Why a store doesn't continue over a second file. Its log is unchanged, and nothing was written to the second file.
 #[derive(Clone, Copy, Debug, PartialEq, Eq, Error)]
 pub enum RotateCause {
-    /// The append of this record has failed.
+    /// The append of record `cell` has failed. Records are counted from 0.
     #[error("the append of record {cell} has failed")]
     Closed { cell: u64 },
-    /// The second file has more than 17 bytes, this many.
+    /// The second file has `len` bytes, which is more than 17.
     #[error("the second file has {len} bytes")]
     InUse { len: u64 },
-    /// There are too many objects and leaves for a log.
+    /// A fresh log of the objects and leaves would have more records than a log may have.
     #[error("there are too many objects and leaves for a log")]
     TooLong,
+    /// Memory ran out before the second file was written to.
     #[error("out of memory")]
     Memory,
 }
@@ -51,28 +52,31 @@ pub enum RotateCause {
 /// Why there is no store, and its book. The store has ended.
 #[derive(Drop)]
 pub enum NotRotated<I: Index, D: LogDisk> {
-    /// The book as it was, and the second drive, whose file has no record of it. Unless the cause is `Closed`, `renew_book` goes on
-    /// with the book over its own file, and the store can be rotated later.
+    /// The unchanged book, and the drive of the second file, to which nothing was written. If the cause is `Closed`,
+    /// open both files with `open_either`. Otherwise `renew_book` continues with the book over its own file, and that
+    /// store can be rotated later.
     Kept {
         book: Book<I, D>,
         spare: D,
         cause: RotateCause,
     },
-    /// The book as it was, but the second drive failed: its file may have all objects by now, or none, and after a crash too. Nothing may be
-    /// appended to the first log while the second one has records: else an opening of both files finds two logs that differ. The way on is
-    /// to drop the book and to open both files with `open_either`.
+    /// The unchanged book, and the second drive, which failed. The second file may have all objects or none, also after
+    /// a crash. Append nothing to the first log while the second has records. Otherwise the two logs differ, and an
+    /// opening of both files refuses them. Drop the book, and open both files with `open_either`.
     Unsure {
         book: Book<I, D>,
         spare: D,
     },
-    /// The book goes on over the second file, but the first drive failed while its log was emptied. Nothing may be appended to the
-    /// second log before the first one has no records: else an opening of both files finds two logs that differ.
+    /// The book continues over the second file, but the first drive failed while its log was emptied. Append nothing to
+    /// the second log while the first has records. Otherwise the two logs differ, and an opening of both files refuses
+    /// them. Drop the book, and open both files with `open_either`.
     Uncleared {
         book: Book<I, D>,
         entries: Entries,
         old: D,
     },
-    /// Memory ran out for the new lock: the book goes on over the second file, and the first one has an empty log.
+    /// Memory ran out for the new lock. The book continues over the second file, and the first file has an empty log.
+    /// `Store::new` begins a store with this book.
     Memory {
         book: Book<I, D>,
         entries: Entries,
@@ -80,7 +84,7 @@ pub enum NotRotated<I: Index, D: LogDisk> {
     },
 }
 
-// An index with leaves anew, and the log that was begun of them.
+// An index with new leaves, and the log that was begun with them.
 struct Begun<I: Index, D: LogDisk> {
     index: I,
     opened: Opened<D>,
@@ -94,15 +98,16 @@ enum BeginCause {
     Unsure,
 }
 
-// The second drive, where no log was begun on it.
+// The second drive, if no log was begun on it.
 struct NotBegun<D: LogDisk> {
     disk: D,
     cause: BeginCause,
 }
 
-/// Ends a store over a file, and begins one with an empty history over a second file, which has at most 17 bytes: the objects and the
-/// leaves are written there as a fresh log, and then the first one is made empty, ready for the next rotation. Nothing is appended to the
-/// second log before that.
+/// Ends a store over a file, and begins one with an empty history over a second file, which has at most 17 bytes. The
+/// second file is the one that is attached to `spare`. The objects and the leaves are written and synced there as a
+/// fresh log. Only then is the first log emptied, which makes it ready for the next rotation. Nothing is appended to
+/// the second log before that.
 pub fn rotate_store<I: Index, D: LogDisk>(
     alloc: Global,
     store: Store<I, D, OverFile>,
@@ -123,9 +128,9 @@ pub fn rotate_store<I: Index, D: LogDisk>(
     }
 }
 
-/// The same with leaves anew: those that the bucket size asks of the objects as they are, and no more, so that leaves that have become
-/// empty don't pile up. It builds a second index beside the one that there is, and so takes longer than `rotate_store`, and that index's
-/// memory.
+/// The same with new leaves, which are those that the bucket size requires for the objects. So leaves that have become
+/// empty don't pile up. The call builds a second index while the first one still exists. It takes longer than
+/// `rotate_store`, and needs memory for that index.
 pub fn rotate_anew<I: Index, D: LogDisk>(
     alloc: Global,
     store: Store<I, D, OverFile>,
@@ -162,7 +167,7 @@ fn begin_as_is<I: Index, D: LogDisk>(book: &Book<I, D>, spare: D) -> Result<Open
     }
 }
 
-// Makes leaves anew, and writes the objects and these as a fresh log on this drive.
+// Creates new leaves, and writes them and the objects as a fresh log on this drive.
 fn begin_anew<I: Index, D: LogDisk>(
     alloc: Global,
     book: &Book<I, D>,
@@ -207,7 +212,7 @@ fn begin_with<I: Index, D: LogDisk>(content: Content, spare: D) -> Result<Opened
     }
 }
 
-// The second drive, on which nothing was written.
+// The second drive, to which nothing was written.
 fn refused<D: LogDisk>(disk: D, cause: RotateCause) -> NotBegun<D>
     ensures { result ≡ record { disk = disk; cause = BeginCause.Refused cause } }
 {
@@ -217,7 +222,7 @@ fn refused<D: LogDisk>(disk: D, cause: RotateCause) -> NotBegun<D>
     }
 }
 
-// A longer file than that of a log without records was left alone; a drive that failed may have written some or all.
+// A file of more than 17 bytes was left unchanged. A drive that failed may have written some of the log or all of it.
 fn begin_cause(fault: CompactFault) -> BeginCause
     ensures { result ≡ begin_cause fault }
 {
@@ -229,7 +234,7 @@ fn begin_cause(fault: CompactFault) -> BeginCause
     }
 }
 
-// The book comes back, of which no log was begun.
+// Returns the book, for which no log was begun.
 fn not_rotated<I: Index, D: LogDisk>(
     book: Book<I, D>,
     spare: D,
@@ -243,7 +248,7 @@ fn not_rotated<I: Index, D: LogDisk>(
     }
 }
 
-// Empties the log so far, and makes a store of the book that goes on over the other one.
+// Empties the first log, and creates a store of the book that continues over the second log.
 fn finish<I: Index, D: LogDisk>(
     alloc: Global,
     replaced: Replaced<I, D>,

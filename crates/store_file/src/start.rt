@@ -1,7 +1,7 @@
-//! What is known of each store over a file.
+//! The fact that each store over a file has.
 use sessions::Start;
 
-/// Of a store over a file: it has a log. No value of it is made.
+/// The fact that a store over a file has: its book has a log. No value of this type is ever created.
 pub struct OverFile;
 
 impl Start for OverFile {
