@@ -1,6 +1,6 @@
 -- A pass that goes on.
 use Rattle.std.proofs.Common.{◌≡◌, ◌≢◌, ◌⊎◌, ℕ, List, [], ◌∷◌, ◌++◌, length, inl, inr, refl, sym, ap, subst, ◌∙◌, append_assoc, length-append, arith}
-use Rattle.std.specs.Prelude.{⊤}
+use Rattle.std.specs.Prelude.{⊤, None}
 use mathlib.Core.Logic.{dite}
 use native.Mathlib.Decide.{ℕ_discrete}
 use mathlib.Core.List.{IsPrefix, append-nil}
@@ -8,6 +8,7 @@ use Rattle.plain_list.specs.declared.ops.Op.{Op}
 use Rattle.plain_list.specs.declared.entries.Entry.{Entry}
 use Rattle.plain_list.specs.declared.entries.Entry.TheVariants.{Fail, Call, Begin, Install, Abandon}
 use Rattle.plain_list.specs.declared.entries.Lost.{Lost}
+use Rattle.plain_list.specs.History.{failed_cell}
 use Rattle.plain_list.specs.Played.{calls_of}
 use Rattle.book_lock.specs.Pass.{Known}
 use Rattle.book_lock.specs.Own.{Owns, IsBelow}
@@ -17,16 +18,16 @@ use Rattle.sessions.specs.Steps.{has_seen, has_added}
 use Rattle.lane_history.proofs.OwnEntries.{own_entries, own-seen, own-added}
 use Rattle.lane_history.proofs.CallsOf.{calls-append}
 
--- a step that was lost was one of these behind the history
+-- a step that was lost was one of these behind the history, and no append had failed there
 abbrev pub LostSo : (List Entry → Lost → Type 0) → List Entry → Entry → Type 0
-LostSo Step before (Fail cell lost) = Step before lost
+LostSo Step before (Fail cell lost) = Step before lost × (failed_cell before ≡ None)
 LostSo Step before (Call session row op) = ⊤
 LostSo Step before (Begin number name) = ⊤
 LostSo Step before (Install number) = ⊤
 LostSo Step before (Abandon number) = ⊤
 
 lost-weaken : (Step More : List Entry → Lost → Type 0) → ((before : List Entry) (l : Lost) → Step before l → More before l) → (before : List Entry) (e : Entry) → LostSo Step before e → LostSo More before e
-lost-weaken Step More more before (Fail cell lost) is = more before lost is
+lost-weaken Step More more before (Fail cell lost) is = (more before lost is.0, is.1)
 lost-weaken Step More more before (Call session row op) is = tt
 lost-weaken Step More more before (Begin number name) is = tt
 lost-weaken Step More more before (Install number) is = tt

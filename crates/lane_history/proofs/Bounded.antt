@@ -21,7 +21,9 @@ use Rattle.lane_history.specs.Lanes.{IsPlayedOut, GoesOn}
 use Rattle.sessions.proofs.SettleLemmas.{cells-added}
 use Rattle.lane_history.specs.Settled.{IsBounded}
 use Rattle.lane_history.proofs.Weights.{weight, weight-all, all_below, at, at-is, below-take}
-use Rattle.lane_history.proofs.Entries.{begins, calls, ends, fails, one-kind, legal-begin, one-fail, open-few}
+use Rattle.lane_history.proofs.Entries.{begins, calls, ends, fails, one-kind, legal-begin, open-few}
+use Rattle.lane_history.proofs.Fails.{FailsAlone, alone-front, one-fail}
+use Rattle.lane_history.proofs.PlayedOut.{alone}
 use Rattle.lane_history.proofs.Bounds.{AreFew, size-few}
 use Rattle.lane_history.proofs.Gains.{crowd}
 use Rattle.lane_history.proofs.Steps.{bad, IsCalm, take-prefix}
@@ -135,6 +137,7 @@ record AreBelow (origin : Origin) (h : List Entry) (most : ℕ) : Type 0 where
   pub fair : (n : ℕ) → n ≤ length h → all_below (at begins h) n ≤ all_below (at calls h) n + all_below (at ends h) n + 1
   pub room : (n : ℕ) → n < length h → 1 ≤ at begins h n → (n ≤ 4000000) × (cells_at origin (take n h) ≤ 16000000)
   pub few : all_below (at calls h) (length h) ≤ most
+  pub alone : FailsAlone h
 
 are-below : {I D O P : Type 0} (w : ℕ) (origin : Origin) (rows : List InRow) (sessions : List ℕ) (lanes : List (Lane I D O P)) (last : Known) → IsPlayedOut w origin rows sessions lanes last → AreBelow origin last.seen (length rows)
 are-below w origin rows sessions lanes last out =
@@ -151,6 +154,7 @@ are-below w origin rows sessions lanes last out =
           omega arith;
       room = λ n less begun. begin-room origin h n less begun (below-zero (crowd h (bad origin h)) (length h) n none less);
       few = let c = whole (at calls h) (length h) (omega arith) in let few = end.few in omega arith;
+      alone = alone w origin rows sessions lanes last out;
     }
 
 below-more : (g : ℕ → ℕ) (a b : ℕ) → all_below g a ≤ all_below g (a + b)
@@ -178,8 +182,9 @@ module _ (w : ℕ) (origin : Origin) (h : List Entry) (legal : IsLegal w (start_
       let few : AreFew most size (at begins h) (at calls h) (at ends h) (at fails h) (length h) = record { first = first; next = next; one = one-at h; room = room; fair = below.fair } in
       let most_is = size-few most size (at begins h) (at calls h) (at ends h) (at fails h) (length h) few n le in
       let front : IsLegal w (start_of origin) (take n h) = legal-begin w (start_of origin) (take n h) (drop n h) (subst (IsLegal w (start_of origin)) (sym (take-append-drop n h)) legal) in
+      let alone_there : FailsAlone (take n h) = alone-front (take n h) (drop n h) (subst FailsAlone (sym (take-append-drop n h)) below.alone) in
       let splits = open-few w (start_of origin) (take n h) front in
-      let failed = one-fail w (start_of origin) (take n h) front in
+      let failed = one-fail (take n h) alone_there in
       let b = below-take begins h n le in
       let e = below-take ends h n le in
       let f = below-take fails h n le in

@@ -9,7 +9,9 @@ use Rattle.zorder.specs.SameName.{same_name}
 use Rattle.plain_list.specs.declared.entries.Entry.{Entry}
 use Rattle.plain_list.specs.declared.entries.Entry.TheVariants.{Fail, Call, Begin, Install, Abandon}
 use Rattle.plain_list.specs.History.{call_count}
-use Rattle.plain_list.specs.State.{State, OpenSplit, split_name, without_number, without_name, is_possible, is_free, is_fail, is_empty, step, state_after, is_legal_history, IsLegal}
+use Rattle.plain_list.specs.State.{State, OpenSplit, split_name, without_number, without_name, is_possible, is_free, is_fail, are_fails, step, state_after, is_legal_history, IsLegal}
+use Rattle.plain_list.proofs.Histories.{legal-rest}
+use Rattle.plain_list.proofs.SplitHistories.{first_step}
 use Rattle.lane_history.proofs.Weights.{sum_of}
 
 abbrev pub begins : Entry → ℕ
@@ -60,40 +62,24 @@ pub sum-append : (f : Entry → ℕ) (h g : List Entry) → sum_of f (h ++ g) �
 sum-append f [] g = omega arith
 sum-append f (e ∷ h) g = let rest = sum-append f h g in omega arith
 
--- the parts of a legal history
-legal-may : (w : ℕ) (s : State) (e : Entry) (h : List Entry) → IsLegal w s (e ∷ h) → is_possible w s e ≡ true
-legal-may w s e h legal =
-    first_so (is_possible w s e) (is_free s e) (first_so (is_possible w s e && is_free s e) (cond (is_fail e) (is_empty h) (is_legal_history w (step w s e) h)) legal)
-
-legal-both : (w : ℕ) (s : State) (e : Entry) (h : List Entry) → IsLegal w s (e ∷ h) → (is_possible w s e && is_free s e) ≡ true
-legal-both w s e h legal = first_so (is_possible w s e && is_free s e) (cond (is_fail e) (is_empty h) (is_legal_history w (step w s e) h)) legal
-
-legal-rest : (w : ℕ) (s : State) (e : Entry) (h : List Entry) → IsLegal w s (e ∷ h) → cond (is_fail e) (is_empty h) (is_legal_history w (step w s e) h) ≡ true
-legal-rest w s e h legal = second_so (is_possible w s e && is_free s e) (cond (is_fail e) (is_empty h) (is_legal_history w (step w s e) h)) legal
+fails-front : (g t : List Entry) → are_fails (g ++ t) ≡ true → are_fails g ≡ true
+fails-front [] t all = refl
+fails-front (Fail cell lost ∷ g) t all = fails-front g t all
+fails-front (Call session row op ∷ g) t all = all
+fails-front (Begin number name ∷ g) t all = all
+fails-front (Install number ∷ g) t all = all
+fails-front (Abandon number ∷ g) t all = all
 
 -- a beginning of a legal history is legal
 pub legal-begin : (w : ℕ) (s : State) (g t : List Entry) → IsLegal w s (g ++ t) → IsLegal w s g
 legal-begin w s [] t legal = refl
-legal-begin w s (e ∷ g) t legal = both_true (legal-both w s e (g ++ t) legal) (by_test (is_fail e) (legal-rest w s e (g ++ t) legal) (legal-begin w (step w s e) g t))
+legal-begin w s (e ∷ g) t legal = both_true (first_so (is_possible w s e && is_free s e) (cond (is_fail e) (are_fails (g ++ t)) (is_legal_history w (step w s e) (g ++ t))) legal)
+    (by_test (is_fail e) (second_so (is_possible w s e && is_free s e) (cond (is_fail e) (are_fails (g ++ t)) (is_legal_history w (step w s e) (g ++ t))) legal) (legal-begin w (step w s e) g t))
   where
-    empty-front : (g t : List Entry) → is_empty (g ++ t) ≡ true → is_empty g ≡ true
-    empty-front [] t empty = refl
-    empty-front (x ∷ g) t empty = empty
-
-    by_test : (b : Bool) → cond b (is_empty (g ++ t)) (is_legal_history w (step w s e) (g ++ t)) ≡ true → (is_legal_history w (step w s e) (g ++ t) ≡ true → is_legal_history w (step w s e) g ≡ true)
-        → cond b (is_empty g) (is_legal_history w (step w s e) g) ≡ true
-    by_test true rest more = empty-front g t rest
+    by_test : (b : Bool) → cond b (are_fails (g ++ t)) (is_legal_history w (step w s e) (g ++ t)) ≡ true → (is_legal_history w (step w s e) (g ++ t) ≡ true → is_legal_history w (step w s e) g ≡ true)
+        → cond b (are_fails g) (is_legal_history w (step w s e) g) ≡ true
+    by_test true rest more = fails-front g t rest
     by_test false rest more = more rest
-
--- only the last entry of a legal history is a failed append
-pub one-fail : (w : ℕ) (s : State) (h : List Entry) → IsLegal w s h → sum_of fails h ≤ 1
-one-fail w s [] legal = omega arith
-one-fail w s (Fail cell lost ∷ []) legal = omega arith
-one-fail w s (Fail cell lost ∷ e ∷ h) legal = absurd (true≢false (sym (legal-rest w s (Fail cell lost) (e ∷ h) legal)))
-one-fail w s (Call session row op ∷ h) legal = let rest = one-fail w (step w s (Call session row op)) h (legal-rest w s (Call session row op) h legal) in omega arith
-one-fail w s (Begin number name ∷ h) legal = let rest = one-fail w (step w s (Begin number name)) h (legal-rest w s (Begin number name) h legal) in omega arith
-one-fail w s (Install number ∷ h) legal = let rest = one-fail w (step w s (Install number)) h (legal-rest w s (Install number) h legal) in omega arith
-one-fail w s (Abandon number ∷ h) legal = let rest = one-fail w (step w s (Abandon number)) h (legal-rest w s (Abandon number) h legal) in omega arith
 
 -- fewer splits
 pub filter-few : (keep : OpenSplit → Bool) (splits : List OpenSplit) → length (filter keep splits) ≤ length splits
@@ -116,8 +102,7 @@ without-fewer number (s ∷ splits) is = by_test (s.number == number) is (withou
 -- the splits that are open behind a legal history, and those that ended, are no more than those that were open and those that began
 pub open-few : (w : ℕ) (s : State) (h : List Entry) → IsLegal w s h → length (state_after w s h).splits + sum_of ends h ≤ length s.splits + sum_of begins h
 open-few w s [] legal = omega arith
-open-few w s (Fail cell lost ∷ []) legal = omega arith
-open-few w s (Fail cell lost ∷ e ∷ h) legal = absurd (true≢false (sym (legal-rest w s (Fail cell lost) (e ∷ h) legal)))
+open-few w s (Fail cell lost ∷ h) legal = let rest = open-few w s h (legal-rest w s (Fail cell lost) h legal) in omega arith
 open-few w s (Call session row op ∷ h) legal = let rest = open-few w (step w s (Call session row op)) h (legal-rest w s (Call session row op) h legal) in omega arith
 open-few w s (Begin number name ∷ h) legal =
     let rest = open-few w (step w s (Begin number name)) h (legal-rest w s (Begin number name) h legal) in
@@ -126,9 +111,9 @@ open-few w s (Begin number name ∷ h) legal =
     omega arith
 open-few w s (Install number ∷ h) legal =
     let rest = open-few w (step w s (Install number)) h (legal-rest w s (Install number) h legal) in
-    let less = without-fewer number s.splits (legal-may w s (Install number) h legal) in
+    let less = without-fewer number s.splits (first_step w s (Install number) h legal).possible in
     omega arith
 open-few w s (Abandon number ∷ h) legal =
     let rest = open-few w (step w s (Abandon number)) h (legal-rest w s (Abandon number) h legal) in
-    let less = without-fewer number s.splits (legal-may w s (Abandon number) h legal) in
+    let less = without-fewer number s.splits (first_step w s (Abandon number) h legal).possible in
     omega arith

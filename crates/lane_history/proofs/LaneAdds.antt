@@ -8,15 +8,19 @@ use Rattle.plain_list.specs.declared.entries.Entry.TheVariants.{Fail, Call}
 use Rattle.plain_list.specs.declared.entries.Lost.{Lost}
 use Rattle.plain_list.specs.declared.entries.Lost.TheVariants as lost
 use Rattle.plain_list.specs.Answer.{answer_of, is_change}
-use Rattle.plain_list.specs.History.{world_after, call_count}
+use Rattle.plain_list.specs.History.{world_after, call_count, failed_cell}
 use Rattle.plain_list.specs.Played.{calls_of}
 use Rattle.book_lock.specs.Pass.{Known}
 use Rattle.book_lock.specs.Own.{Owns, IsBelow}
 use Rattle.book_lock.specs.declared.origin.Origin.{Origin}
 use Rattle.book_lock.proofs.Histories.{prefix_trans}
 use Rattle.commit_book.specs.declared.book.Done.{Done}
+use Rattle.commit_book.specs.declared.faults.BookFault.{BookFault}
+use Rattle.commit_book.specs.declared.faults.BookFault.TheVariants as book
+use Rattle.commit_book.specs.Refusals.{closed_refusal, call_refusal}
 use Rattle.sessions.specs.Shared.{start_of}
-use Rattle.sessions.specs.Calls.{Called}
+use Rattle.sessions.specs.Steps.{cells_at}
+use Rattle.sessions.specs.Calls.{Called, IsAnswered, call_cause}
 use Rattle.sessions.specs.Lanes.{KeepsRow, KeepsAll, Stops}
 use Rattle.sessions.specs.declared.faults.CallFault.{CallFault}
 use Rattle.sessions.specs.declared.faults.CallFault.TheVariants.{Closed, Disk, HistoryFull, LogFull, Memory}
@@ -27,7 +31,7 @@ use Rattle.lane_history.specs.LostSteps.{IsSplitStep}
 use Rattle.lane_history.proofs.OwnEntries.{own_entries}
 use Rattle.lane_history.proofs.CallsOf.{calls-one, calls-other}
 use Rattle.lane_history.proofs.Adds.{AddsOf, AddsQuiet, IsAdded, own_of, quiet-of, quiet-seen, quiet-one, quiet-same, calls-trans, adds-one, adds-later, adds-origin, adds-below, adds-own, adds-at, of-weaken}
-use Rattle.lane_history.proofs.SplitAdds.{SplitLost, tries-quiet}
+use Rattle.lane_history.proofs.SplitAdds.{SplitLost, tries-quiet, NoDisk, call_cause-disk, first-front, not-closed}
 
 pub calls-then : (w s : ℕ) (xs ys : List (ℕ × Op)) (old mid new : Known) → AddsOf (SplitLost w old) s xs old mid → AddsOf (SplitLost w mid) s ys mid new → AddsOf (SplitLost w old) s (xs ++ ys) old new
 calls-then w s xs ys old mid new a b = calls-trans (SplitLost w old) s xs ys old mid new a (subst (λ (o : Origin). AddsOf (IsSplitStep w (start_of o)) s ys mid new) (adds-origin (SplitLost w old) old mid a.entries a.adds) b)
@@ -63,6 +67,27 @@ split-lane w o s rows calls before (lost.Begin number name) is = is
 split-lane w o s rows calls before (lost.Install number) is = is
 split-lane w o s rows calls before (lost.Abandon number) is = is
 
+-- behind a call that was lost no append had failed
+answered-none : (op : Op) (cause : Option BookFault) (cell : ℕ) → NoDisk cell cause → IsAnswered op cause (Err (Disk cell)) → cause ≡ None
+answered-none op None cell never is = refl
+answered-none op (Some (book.Disk n)) cell never is = let same : n ≡ cell = cc is in absurd (never (ap (λ (m : ℕ). Some (book.Disk m)) same))
+answered-none op (Some (book.Closed n)) cell never is = absurd (cc is)
+answered-none op (Some book.HistoryFull) cell never is = absurd (cc is)
+answered-none op (Some book.LogFull) cell never is = absurd (cc is)
+answered-none op (Some book.Memory) cell never is = absurd (cc is)
+answered-none op (Some (book.Room cells events)) cell never is = absurd (cc is)
+answered-none op (Some (book.Splitting number)) cell never is = absurd (cc is)
+answered-none op (Some book.Deep) cell never is = absurd (cc is)
+answered-none op (Some book.NoLeaf) cell never is = absurd (cc is)
+answered-none op (Some (book.Stale number)) cell never is = absurd (cc is)
+answered-none op (Some (book.NotOpen number)) cell never is = absurd (cc is)
+
+call-sound : (w s row : ℕ) (op : Op) (old new : Known) (cell : ℕ) (c : Called w s row op old new (Err (Disk cell))) → failed_cell c.before ≡ None
+call-sound w s row op old new cell c =
+    let cells = cells_at old.origin c.before in
+    let none = answered-none op (call_cause old.origin op cells c.before) cell (call_cause-disk cell old.origin op cells c.before) c.answered in
+    not-closed c.before (first-front (closed_refusal c.before) _ (first-front (call_refusal c.before) _ none))
+
 -- how a lane ends behind the rows that it kept: with a call more that it didn't keep, or none
 record StopsWith (w s : ℕ) (rows front : List (ℕ × Op)) (mid new : Known) (fault : Option CallFault) : Type 0 where
   pub extra : List (ℕ × Op)
@@ -85,7 +110,8 @@ module _ (w s : ℕ) (rows front rest : List (ℕ × Op)) (r : ℕ × Op) (mid n
   stop-fault : (fault : CallFault) → Called w s r.0 r.1 mid new (Err fault) → StopsWith w s rows front mid new (Some fault)
   stop-fault (Closed cell) c = stop-none (Closed cell) (quiet-seen Lane0 mid new c.before c.later c.leaves)
   stop-fault (Disk cell) c = stop-none (Disk cell)
-      (quiet-one Lane0 mid new c.before (Fail cell (lost.Call s r.0 r.1)) c.later (refl, (rest, whole ∙ sym (ap (λ (l : List (ℕ × Op)). l ++ r ∷ rest) (append-nil front))), c.leaves.1) (λ t. refl) c.leaves.0)
+      (quiet-one Lane0 mid new c.before (Fail cell (lost.Call s r.0 r.1)) c.later
+      ((refl, (rest, whole ∙ sym (ap (λ (l : List (ℕ × Op)). l ++ r ∷ rest) (append-nil front))), c.leaves.1), call-sound w s r.0 r.1 mid new cell c) (λ t. refl) c.leaves.0)
   stop-fault HistoryFull c = stop-none HistoryFull (quiet-seen Lane0 mid new c.before c.later c.leaves)
   stop-fault LogFull c = stop-none LogFull (quiet-seen Lane0 mid new c.before c.later c.leaves)
   stop-fault (Memory None) c = stop-none (Memory None) (quiet-seen Lane0 mid new c.before c.later c.leaves)

@@ -29,7 +29,7 @@ use Rattle.lane_history.proofs.SplitAdds.{SplitLost, goes-quiet}
 use Rattle.lane_history.proofs.LaneAdds.{IsLane, is-lane, LaneLost, StoodAt, HaveStood, lane-stood}
 use Rattle.lane_history.proofs.Owners.{IsOf, joined-of, calls-of-lane, calls-of-none, lane-of, owner-of}
 use Rattle.lane_history.proofs.Places.{place-of, reply-of}
-use Rattle.lane_history.proofs.Fails.{fails-at, fail-last, same-place}
+use Rattle.lane_history.proofs.Fails.{FailsAlone, fails-at, fail-last, no-second, same-place}
 
 calm-of : {I D O P : Type 0} (s : ℕ) (lane : Lane I D O P) (sessions : List ℕ) (lanes : List (Lane I D O P)) → AreCalmLanes lanes → IsOf s lane sessions lanes → lane.fault ≡ None
 calm-of s lane [] lanes calm of = absurd of
@@ -129,15 +129,55 @@ module _ {I D O P : Type 0} (w : ℕ) (origin : Origin) (rows : List InRow) (ses
   pub kept_right : AllRight origin.world last.seen lanes
   kept_right = all-right w origin rows sessions lanes Pass last.seen out.played out.joined.seen pass-later played
 
-  -- what stands at the end of a history that ends with a failed append
-  module _ (before : List Entry) (cell : ℕ) (l : Lost) (ends : last.seen ≡ before ++ Fail cell l ∷ []) where
-    added-lost : (Step : List Entry → Lost → Type 0) (seen : List Entry) → IsPrefix seen last.seen → IsAdded Step seen (length before) → Step before l
+  -- a lane has lost this step, and no append had failed before
+  record LaneLoses (before : List Entry) (l : Lost) : Type 0 where
+    pub session : ℕ
+    pub lane : Lane I D O P
+    pub of : IsOf session lane sessions lanes
+    pub lost : LaneLost w origin session (session_rows rows session) (lane-calls session lane of).is.calls before l
+    pub going : failed_cell before ≡ None
+
+  -- what is known of a failed append
+  module _ (before : List Entry) (cell : ℕ) (l : Lost) (rest : List Entry) (is : last.seen ≡ before ++ Fail cell l ∷ rest) where
+    added-lost : (Step : List Entry → Lost → Type 0) (seen : List Entry) → IsPrefix seen last.seen → IsAdded Step seen (length before) → Step before l × (failed_cell before ≡ None)
     added-lost Step seen later added =
         let front : IsPrefix (added.before ++ added.entry ∷ []) last.seen = prefix_trans (added.before ++ added.entry ∷ []) seen last.seen added.seen later in
-        let both : added.before ++ added.entry ∷ front.0 ≡ before ++ Fail cell l ∷ [] = sym (append_assoc added.before (added.entry ∷ []) front.0) ∙ front.1 ∙ ends in
-        let same = same-place added.before before front.0 [] added.entry (Fail cell l) added.place both in
+        let both : added.before ++ added.entry ∷ front.0 ≡ before ++ Fail cell l ∷ rest = sym (append_assoc added.before (added.entry ∷ []) front.0) ∙ front.1 ∙ is in
+        let same = same-place added.before before front.0 rest added.entry (Fail cell l) added.place both in
         subst (λ (e : Entry). LostSo Step before e) same.1 (subst (λ (b : List Entry). LostSo Step b added.entry) same.0 added.lost)
 
+    -- what went on behind the lanes has lost the step, or a lane has
+    lost-by : (SplitLost w Pass before l × (failed_cell before ≡ None)) ⊎ LaneLoses before l
+    lost-by = by_owner (adds-at (SplitLost w Pass) Pass last goes.entries goes.adds (length before) mine)
+      where
+        mine : Owns last.own (length before)
+        mine =
+            let long : length last.seen ≡ length before + length (Fail cell l ∷ rest) = ap length is ∙ length-append before (Fail cell l ∷ rest) in
+            let a = out.whole (length before) in
+            let b = once_below-in (length before) (length last.seen) (omega arith) in
+            omega arith
+
+        by_owner : Owns Pass.own (length before) ⊎ IsAdded (SplitLost w Pass) last.seen (length before) → (SplitLost w Pass before l × (failed_cell before ≡ None)) ⊎ LaneLoses before l
+        by_owner (inr added) = inl (added-lost (SplitLost w Pass) last.seen ([], append-nil last.seen) added)
+        by_owner (inl owns) =
+            let o = out.joined.owned (length before) in
+            let (s, lane, of, has) = owner-of w origin rows Pass (length before) sessions lanes out.played (omega arith) in
+            let c = lane-calls s lane of in
+            let joined = joined-of w origin rows Pass s lane sessions lanes out.played out.joined.seen of in
+            let lost =
+            added-lost (LaneLost w origin s (session_rows rows s) c.is.calls) lane.pass.seen (prefix_trans lane.pass.seen Pass.seen last.seen joined.seen pass-later) (c.is.added (length before) has) in
+            inr (record { session = s; lane = lane; of = of; lost = lost.0; going = lost.1 })
+
+  -- each failed append stands behind a history without one
+  pub alone : FailsAlone last.seen
+  alone before cell l rest is = by_who (lost-by before cell l rest is)
+    where
+      by_who : (SplitLost w Pass before l × (failed_cell before ≡ None)) ⊎ LaneLoses before l → failed_cell before ≡ None
+      by_who (inl split) = split.1
+      by_who (inr lane) = lane.going
+
+  -- what stands at the end of a history that ends with a failed append
+  module _ (before : List Entry) (cell : ℕ) (l : Lost) (ends : last.seen ≡ before ++ Fail cell l ∷ []) where
     split-next : (s : Lost) → IsSplitStep w (start_of origin) before s → IsNextStep w (start_of origin) rows before s
     split-next (lost.Call t row op) is = absurd is
     split-next (lost.Begin number name) is = is
@@ -154,32 +194,21 @@ module _ {I D O P : Type 0} (w : ℕ) (origin : Origin) (rows : List InRow) (ses
     lane-next s calls are (lost.Abandon number) is = is
 
     pub lost-next : IsNextStep w (start_of origin) rows before l
-    lost-next = by_owner (adds-at (SplitLost w Pass) Pass last goes.entries goes.adds (length before) mine)
+    lost-next = by_who (lost-by before cell l [] ends)
       where
-        mine : Owns last.own (length before)
-        mine =
-            let long : length last.seen ≡ length before + 1 = ap length ends ∙ length-append before (Fail cell l ∷ []) in
-            let a = out.whole (length before) in
-            let b = once_below-in (length before) (length last.seen) (omega arith) in
-            omega arith
-
-        by_owner : Owns Pass.own (length before) ⊎ IsAdded (SplitLost w Pass) last.seen (length before) → IsNextStep w (start_of origin) rows before l
-        by_owner (inr added) =
-            split-next l (subst (λ (o : Origin). IsSplitStep w (start_of o) before l) out.joined.begins (added-lost (SplitLost w Pass) last.seen ([], append-nil last.seen) added))
-        by_owner (inl owns) =
-            let o = out.joined.owned (length before) in
-            let (s, lane, of, has) = owner-of w origin rows Pass (length before) sessions lanes out.played (omega arith) in
-            let c = lane-calls s lane of in
-            let joined = joined-of w origin rows Pass s lane sessions lanes out.played out.joined.seen of in
-            let calls : calls_of s before ≡ c.is.calls =
-            sym (append-nil (calls_of s before)) ∙ sym (calls-append s before (Fail cell l ∷ [])) ∙ ap (calls_of s) (sym ends) ∙ c.calls_are in
-            lane-next s c.is.calls calls l
-            (added-lost (LaneLost w origin s (session_rows rows s) c.is.calls) lane.pass.seen (prefix_trans lane.pass.seen Pass.seen last.seen joined.seen pass-later) (c.is.added (length before) has))
+        by_who : (SplitLost w Pass before l × (failed_cell before ≡ None)) ⊎ LaneLoses before l → IsNextStep w (start_of origin) rows before l
+        by_who (inl split) = split-next l (subst (λ (o : Origin). IsSplitStep w (start_of o) before l) out.joined.begins split.0)
+        by_who (inr lane) =
+            let c = lane-calls lane.session lane.lane lane.of in
+            let calls : calls_of lane.session before ≡ c.is.calls =
+            sym (append-nil (calls_of lane.session before)) ∙ sym (calls-append lane.session before (Fail cell l ∷ [])) ∙ ap (calls_of lane.session) (sym ends) ∙ c.calls_are in
+            lane-next lane.session c.is.calls calls l lane.lost
 
   -- where an append failed: the lost step is the next row of its session, or a step of a split
   pub loses : (cell : ℕ) → IsLegal w (start_of origin) last.seen → failed_cell last.seen ≡ Some cell → LosesStep (IsNextStep w (start_of origin) rows) last.seen cell
   loses cell legal failed =
       let f = fails-at last.seen cell failed in
-      let none = fail-last w (start_of origin) f.before cell f.lost f.rest (subst (IsLegal w (start_of origin)) f.entries legal) in
+      let none = fail-last w (start_of origin) f.before cell f.lost f.rest (subst (IsLegal w (start_of origin)) f.entries legal)
+      (no-second last.seen f.before cell f.lost f.rest alone f.entries) in
       let ends : last.seen ≡ f.before ++ Fail cell f.lost ∷ [] = f.entries ∙ ap (λ (r : List Entry). f.before ++ Fail cell f.lost ∷ r) none in
       record { before = f.before; lost = f.lost; entries = ends; going = f.going; step = lost-next f.before cell f.lost ends }

@@ -1,7 +1,7 @@
 -- Splits add no call, and a step of theirs that is lost was possible.
 use Rattle.std.proofs.Common.{◌≡◌, inl, inr, ℕ, ◌+◌, Bool, true, false, cond, not, List, [], ◌∷◌, length, Option, Some, None, Result, Ok, Err, refl, ap, subst}
 use Rattle.std.proofs.lemmas.Bool.{eq-eqb, ltb-false, le-leb, and_from}
-use Rattle.std.specs.Prelude.{◌&&◌, IsTrue, nat_lt, nat_le}
+use Rattle.std.specs.Prelude.{◌&&◌, IsTrue, nat_lt, nat_le, ◌==◌}
 use Rattle.std.specs.Option.{option_map}
 use mathlib.Core.List.{IsPrefix}
 use Rattle.plain_list.specs.declared.entries.Entry.{Entry}
@@ -10,14 +10,18 @@ use Rattle.plain_list.specs.declared.entries.Lost.{Lost}
 use Rattle.plain_list.specs.declared.entries.Lost.TheVariants as lost
 use Rattle.plain_list.specs.Played.{calls_of}
 use Rattle.plain_list.specs.State.{State, is_leaf, is_splitting, may_split}
-use Rattle.plain_list.specs.History.{failed_cell}
-use Rattle.commit_book.specs.Refusals.{IsRefusedBy, IsMemoryOrDisk, first_of, closed_refusal, room_refusal, leaf_refusal, split_number, has_no_room}
+use Rattle.plain_list.specs.declared.ops.Op.{Op}
+use Rattle.plain_list.specs.Answer.{answer_of, is_change}
+use Rattle.plain_list.specs.History.{world_after, failed_cell}
+use Rattle.commit_book.specs.Refusals.{IsRefusedBy, IsDisk, IsMemoryOrDisk, first_of, closed_refusal, events_refusal, call_refusal, end_refusal, room_refusal, leaf_refusal, split_number, has_no_room, most_cells}
+use Rattle.commit_book.specs.IsBook.{most_events}
 use Rattle.commit_book.specs.declared.faults.BookFault.{BookFault}
 use Rattle.commit_book.specs.declared.faults.BookFault.TheVariants.{Closed, Disk, HistoryFull, LogFull, Memory, Room, Splitting, Deep, NoLeaf, Stale, NotOpen}
 use Rattle.book_lock.specs.Pass.{Known}
 use Rattle.book_lock.specs.declared.origin.Origin.{Origin}
 use Rattle.sessions.specs.Shared.{start_of}
 use Rattle.sessions.specs.Steps.{Leaves, cells_at}
+use Rattle.sessions.specs.Calls.{call_cause}
 use Rattle.sessions.specs.Splits.{begin_cause, state_of, BeginsSplit, InstallsSplit, AbandonsSplit, GivesUp, RanOut, NotInstalled, SplitEnds}
 use Rattle.sessions.specs.Settles.{SplitsAll, SettleEnds}
 use Rattle.sessions.specs.Lanes.{Tries}
@@ -36,7 +40,7 @@ abbrev pub SplitLost : ℕ → Known → List Entry → Lost → Type 0
 SplitLost w pass before l = IsSplitStep w (start_of pass.origin) before l
 
 module _ {A : Type 0} (Step : List Entry → Lost → Type 0) (entry : A → Entry) (lost : List Entry → Lost) (old new : Known) (before : List Entry) (later : IsPrefix old.seen before) where
-  pub step-quiet : (r : Result A BookFault) → ((a : A) → LostSo Step before (entry a)) → ((a : A) (t : ℕ) → calls_of t (entry a ∷ []) ≡ []) → ((cell : ℕ) → r ≡ Err (Disk cell) → Step before (lost before))
+  pub step-quiet : (r : Result A BookFault) → ((a : A) → LostSo Step before (entry a)) → ((a : A) (t : ℕ) → calls_of t (entry a ∷ []) ≡ []) → ((cell : ℕ) → r ≡ Err (Disk cell) → Step before (lost before) × (failed_cell before ≡ None))
       → Leaves entry lost old before new r → AddsQuiet Step old new
   step-quiet (Ok a) so quiet loses is = quiet-one Step old new before (entry a) later (so a) (quiet a) is
   step-quiet (Err (Disk cell)) so quiet loses is = quiet-one Step old new before (Fail cell (lost before)) later (loses cell refl) (λ t. refl) is
@@ -53,7 +57,7 @@ module _ {A : Type 0} (Step : List Entry → Lost → Type 0) (entry : A → Ent
 
 -- the drive's failure is no cause of a refusal
 module _ (cell : ℕ) where
-  abbrev NoDisk : Option BookFault → Type 0
+  abbrev pub NoDisk : Option BookFault → Type 0
   NoDisk o = o ≡ Some (Disk cell) → ⊥
 
   none-disk : NoDisk None
@@ -83,14 +87,36 @@ module _ (cell : ℕ) where
       first-disk (closed_refusal before) _ (closed-disk (failed_cell before))
       (first-disk (room_refusal cells (length before)) _ (cond-disk (has_no_room cells (length before)) (Room cells (length before)) None (λ e. cc e) none-disk) (leaf-disk w (state_of w origin before) name))
 
+  call-disk : (before : List Entry) → NoDisk (call_refusal before)
+  call-disk before = first-disk (closed_refusal before) (events_refusal before) (closed-disk (failed_cell before)) (cond-disk (length before == most_events) HistoryFull None (λ e. cc e) none-disk)
+
+  pub call_cause-disk : (origin : Origin) (op : Op) (cells : ℕ) (before : List Entry) → NoDisk (call_cause origin op cells before)
+  call_cause-disk origin op cells before =
+      first-disk (call_refusal before) _ (call-disk before) (cond-disk ((cells == most_cells) && is_change (answer_of (world_after origin.world before) op)) LogFull None (λ e. cc e) none-disk)
+
+  end-disk : (cells : ℕ) (before : List Entry) → NoDisk (end_refusal cells before)
+  end-disk cells before = first-disk (call_refusal before) _ (call-disk before) (cond-disk (cells == most_cells) LogFull None (λ e. cc e) none-disk)
+
   -- so a step that meets it is refused for no cause
   no-cause : (A : Type 0) (IsFree : BookFault → Type 0) (cause : Option BookFault) → NoDisk cause → IsRefusedBy {A = A} IsFree cause (Err (Disk cell)) → cause ≡ None
   no-cause A IsFree None never refused = refl
   no-cause A IsFree (Some c) never refused = let e : c ≡ Disk cell = cc refused in absurd (never (ap (λ (x : BookFault). Some x) e))
 
+pub first-front : (a b : Option BookFault) → first_of a b ≡ None → a ≡ None
+first-front (Some x) b is = absurd (cc is)
+first-front None b is = refl
+
 first-none : (a b : Option BookFault) → first_of a b ≡ None → b ≡ None
 first-none (Some x) b is = absurd (cc is)
 first-none None b is = is
+
+-- where a step isn't refused for an append that failed, none has failed
+pub not-closed : (before : List Entry) → closed_refusal before ≡ None → failed_cell before ≡ None
+not-closed before none = by_cell (failed_cell before) none
+  where
+    by_cell : (o : Option ℕ) → option_map Closed o ≡ None → o ≡ None
+    by_cell (Some n) none = absurd (cc none)
+    by_cell None none = refl
 
 -- a leaf that is refused for no cause may be split
 leaf-may : (w : ℕ) (s : State) (name : List Bool) → leaf_refusal w s name ≡ None → IsTrue (may_split w s name)
@@ -116,22 +142,33 @@ pub begins-quiet : (w : ℕ) (name : List Bool) (old new : Known) (r : Result �
 begins-quiet w name old new r step =
     step-quiet (SplitLost w old) (λ number. Begin number name) (λ before. lost.Begin ((state_of w old.origin before).begun + 1) name) old new step.before step.later r (λ number. tt) (λ number t. refl) loses step.leaves
   where
-    loses : (cell : ℕ) → r ≡ Err (Disk cell) → SplitLost w old step.before (lost.Begin ((state_of w old.origin step.before).begun + 1) name)
+    loses : (cell : ℕ) → r ≡ Err (Disk cell) → SplitLost w old step.before (lost.Begin ((state_of w old.origin step.before).begun + 1) name) × (failed_cell step.before ≡ None)
     loses cell is =
         let s = state_of w old.origin step.before in
         let refused : IsRefusedBy IsMemoryOrDisk (begin_cause w old.origin name (cells_at old.origin step.before) step.before) (Err (Disk cell)) = subst (λ (x : Result ℕ BookFault). IsRefusedBy IsMemoryOrDisk (begin_cause w old.origin name (cells_at old.origin step.before) step.before) x) is step.refused in
         let none = no-cause cell ℕ IsMemoryOrDisk (begin_cause w old.origin name (cells_at old.origin step.before) step.before) (begin-disk cell w old.origin name (cells_at old.origin step.before) step.before) refused in
-        let leaf : leaf_refusal w s name ≡ None = first-none (room_refusal (cells_at old.origin step.before) (length step.before)) (leaf_refusal w s name) (first-none (closed_refusal step.before) _ none) in
-        and_from _ (not (is_splitting s.splits name)) (and_from _ (may_split w s name) (eq-eqb (s.begun + 1) (s.begun + 1) refl) (leaf-may w s name leaf)) (leaf-free w s name leaf)
+        let leaf : leaf_refusal w s name ≡ None = first-none (room_refusal (cells_at old.origin step.before) (length step.before)) (leaf_refusal w s name) (first-none (closed_refusal step.before) _ none) in (
+          and_from _ (not (is_splitting s.splits name)) (and_from _ (may_split w s name) (eq-eqb (s.begun + 1) (s.begun + 1) refl) (leaf-may w s name leaf)) (leaf-free w s name leaf),
+          not-closed step.before (first-front (closed_refusal step.before) _ none),
+        )
+
+-- behind the end of a split that was lost no append had failed
+end-sound : (IsFree : BookFault → Type 0) (r : Result (Unit {0}) BookFault) (cells : ℕ) (before : List Entry) (cell : ℕ) → r ≡ Err (Disk cell)
+    → IsRefusedBy IsFree (end_refusal cells before) r → failed_cell before ≡ None
+end-sound IsFree r cells before cell is refused =
+    let none = no-cause cell (Unit {0}) IsFree (end_refusal cells before) (end-disk cell cells before) (subst (λ (x : Result (Unit {0}) BookFault). IsRefusedBy IsFree (end_refusal cells before) x) is refused) in
+    not-closed before (first-front (closed_refusal before) _ (first-front (call_refusal before) _ none))
 
 -- its end
 pub installs-quiet : (w number : ℕ) (old new : Known) (r : Result (Unit {0}) BookFault) → InstallsSplit w number old new r → AddsQuiet (SplitLost w old) old new
 installs-quiet w number old new r ends =
-    step-quiet (SplitLost w old) (λ (done : Unit {0}). Install number) (λ before. lost.Install number) old new ends.step.before ends.step.later r (λ done. tt) (λ done t. refl) (λ cell is. ends.is_open) ends.step.leaves
+    step-quiet (SplitLost w old) (λ (done : Unit {0}). Install number) (λ before. lost.Install number) old new ends.step.before ends.step.later r (λ done. tt) (λ done t. refl)
+    (λ cell is. (ends.is_open, end-sound IsMemoryOrDisk r (cells_at old.origin ends.step.before) ends.step.before cell is ends.step.refused)) ends.step.leaves
 
 pub abandons-quiet : (w number : ℕ) (old new : Known) (r : Result (Unit {0}) BookFault) → AbandonsSplit w number old new r → AddsQuiet (SplitLost w old) old new
 abandons-quiet w number old new r ends =
-    step-quiet (SplitLost w old) (λ (done : Unit {0}). Abandon number) (λ before. lost.Abandon number) old new ends.step.before ends.step.later r (λ done. tt) (λ done t. refl) (λ cell is. ends.is_open) ends.step.leaves
+    step-quiet (SplitLost w old) (λ (done : Unit {0}). Abandon number) (λ before. lost.Abandon number) old new ends.step.before ends.step.later r (λ done. tt) (λ done t. refl)
+    (λ cell is. (ends.is_open, end-sound IsDisk r (cells_at old.origin ends.step.before) ends.step.before cell is ends.step.refused)) ends.step.leaves
 
 -- one after the other
 pub quiet-then : (w : ℕ) (old mid new : Known) → AddsQuiet (SplitLost w old) old mid → AddsQuiet (SplitLost w mid) mid new → AddsQuiet (SplitLost w old) old new
