@@ -1,0 +1,2 @@
+mod LatestMoments
+pub mod Exact

@@ -1,4 +1,9 @@
+pub mod Fresh
 pub mod Memory
+pub mod Now
+pub mod Sessions
+pub mod Status
+pub mod Team
 pub use Rattle.plain_list.specs.Answer
 pub use Rattle.store_client.specs.Caller
 pub use Rattle.store_file.specs.Opened
