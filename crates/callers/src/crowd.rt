@@ -1,11 +1,10 @@
 //! Runs all threads of a plan at once.
-ghost use Rattle.std.specs.Prelude.{◌≡◌, ◌≤◌, IfSome, vec_len};
-ghost use Rattle.pisrakun.specs.Caller.{Keeps};
+ghost use Rattle.std.specs.Prelude.{◌≡◌, IfSome, vec_len};
 
 use crate::plan::Plan;
 use crate::rows::{OBJECTS, put_of};
 use crate::work::Caller;
-use pisrakun::{Client, Index, LogDisk, Start};
+use pisrakun::{Index, LogDisk, ObjectStore, Start};
 use std::alloc::Global;
 use std::rt::Clock;
 use std::sync::Wait;
@@ -24,13 +23,11 @@ fn callers(alloc: Global, plan: Plan) -> Option<Vec<Caller>>
 // Puts the objects of all sessions of a plan.
 fn put_all<I: Index, D: LogDisk, O: Start, R: Wait>(
     rt: &R,
-    client: &mut Client<'_, I, D, O>,
+    store: &mut ObjectStore<I, D, O>,
     plan: Plan,
-)
-    ensures { Keeps client.old client.new }
-{
+) {
     for object in 0..u32::from(plan.all) * OBJECTS {
-        let _ = client.ask(rt, &put_of(object));
+        let _ = store.ask(rt, &put_of(object));
     }
 }
 
@@ -39,13 +36,10 @@ fn put_all<I: Index, D: LogDisk, O: Start, R: Wait>(
 pub fn play<I: Index + Send, D: LogDisk + Send, O: Start + Send, R: Threads + Wait + Clock + Sync>(
     rt: &R,
     alloc: Global,
-    client: &mut Client<'_, I, D, O>,
+    store: &mut ObjectStore<I, D, O>,
     plan: Plan,
-) -> Option<Vec<Caller>>
-    requires { 256 ≤ client.old.pass.parts }
-    ensures { Keeps client.old client.new }
-{
+) -> Option<Vec<Caller>> {
     let callers = callers(alloc, plan)?;
-    put_all(rt, client, plan);
-    client.work_all(rt, 0, callers).ok()
+    put_all(rt, store, plan);
+    store.work_all(rt, 0, callers).ok()
 }

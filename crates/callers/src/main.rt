@@ -4,10 +4,10 @@
 //! Usage: `callers THREADS RATE MILLISECONDS BATCH BUSY`.
 //!
 //! Each of THREADS threads (1 to 16) makes RATE calls a second for MILLISECONDS ms. Of four calls, three move objects
-//! of its own, and one finds the nearest 8. Meanwhile BATCH threads of a batch (at most 3) and BUSY others (at most 1)
-//! make such calls without a pause. The program prints only counts, which are the same in every schedule. With the word
-//! `times` at the end it also prints how many nanoseconds each paced call took. `tools/waits.py` makes a table of
-//! these.
+//! of its own, and one finds the nearest 8. At the same time BATCH threads of a batch (at most 3) and BUSY others (at
+//! most 1) make such calls without a pause. The program prints only counts, which are the same in every schedule. With
+//! the word `times` at the end it also prints how many nanoseconds each paced call took. `tools/waits.py` makes a table
+//! of these.
 #![tactic(auto)]
 
 ghost use Rattle.std.specs.Prelude.{◌≤◌};
@@ -18,7 +18,7 @@ mod rows;
 mod work;
 
 use crowd::play;
-use pisrakun::{Client, InMemory, KdTrie, in_memory};
+use pisrakun::{KdTrie, MemoryStore};
 use plan::Plan;
 use std::env::{self, Args};
 use std::io;
@@ -81,13 +81,11 @@ fn main(rt: HostRuntime) -> io::Result<()> {
     let mut words = env::args(&rt)?;
     words.next();
     let plan = plan_of(&mut words);
-    let Ok(InMemory { store, pass }) = in_memory::<KdTrie>(rt.alloc(), BUCKET) else {
+    let Ok(mut store) = MemoryStore::<KdTrie>::in_memory(rt.alloc(), BUCKET) else {
         return println!(rt; "no memory");
     };
-    let mut client = Client::new(&store, rt.alloc(), pass, 0);
-    let callers = play(&rt, rt.alloc(), &mut client, plan);
-    let pass = client.into_pass();
-    store.close(pass);
+    let callers = play(&rt, rt.alloc(), &mut store, plan);
+    store.close();
     match callers {
         Some(callers) => tell(&rt, &plan, callers.as_slice()),
         None => println!(rt; "no memory"),
