@@ -1,14 +1,10 @@
 //! The sessions of a day. Each makes its calls with a client of its own.
-ghost use Rattle.store_client.specs.Caller.{Keeps};
+ghost use Rattle.pisrakun.specs.Caller.{Keeps};
 
 use crate::map::nearest_free;
 use crate::town::{DISPATCHER, STATION, WAITING, is_good, op_of};
-use disk_trait::LogDisk;
-use index_layer::Index;
-use plain_list::Answer;
-use sessions::Start;
+use pisrakun::{Answer, Client, Index, LogDisk, Start, Work};
 use std::sync::Wait;
-use store_client::{Client, Work};
 
 // How many calls a driver makes, and how often the dispatcher looks for a taxi.
 const ROWS: u32 = 101;

@@ -1,24 +1,13 @@
 //! A day of the taxi company.
-ghost use Rattle.std.specs.Prelude.{◌≡◌, ◌≤◌, [], IfSome, vec_len};
-ghost use Rattle.plain_list.specs.World.{IsWorld};
-ghost use Rattle.store_client.specs.Caller.{Keeps};
+ghost use Rattle.std.specs.Prelude.{◌≡◌, IfSome, vec_len};
 
 use crate::callers::Caller;
 use crate::map::{AROUND, nearest_free};
 use crate::town::{DISPATCHER, STATION, TAKEN, WAITING};
-use commit_book::Book;
-use disk_trait::LogDisk;
-use index_layer::Index;
-use index_view::View;
-use io_edge::OpenGate;
-use plain_list::{Entries, Entry, PlacedList};
-use sessions::Store;
+use pisrakun::{Entries, Entry, Index, Memory, MemoryStore, Placed, PlacedList, View};
 use std::alloc::Global;
-use std::marker::Brand;
 use std::sync::Wait;
 use std::thread::Threads;
-use store_client::Client;
-use zorder::{Memory, Placed};
 
 /// The result of a day.
 #[derive(Drop)]
@@ -39,34 +28,21 @@ pub struct Evening<I: Index> {
     pub free: Option<Placed>,
 }
 
-/// Plays a day on an empty store. Returns `None` if memory runs out.
-pub fn play_day<I: Index + Send, D: LogDisk + Send, R: Threads + Wait + AllocGlobal + Sync>(
+/// Plays a day on a store, and closes it. Returns `None` if memory runs out.
+pub fn play_day<I: Index + Send, R: Threads + Wait + AllocGlobal + Sync>(
     rt: &R,
-    book: Book<I, D>,
-) -> Option<Day<I>>
-    requires entries { book.entries ≡ [] }
-    requires world { IsWorld book.opening.world }
-{
-    let alloc = rt.alloc();
-    let Ok((taxis, pass)) = Store::<I, D, Brand>::new(alloc, book) else {
-        return None;
-    };
-    let mut client = Client::new(&taxis, alloc, pass, DISPATCHER);
-    let day = call_all_day(rt, &mut client);
-    let mut pass = client.into_pass();
-    let _ = taxis.settle(rt, alloc, &mut pass, &OpenGate);
-    let events = history_of(taxis.close(pass));
+    mut taxis: MemoryStore<I>,
+) -> Option<Day<I>> {
+    taxis.set_session(DISPATCHER);
+    let day = call_all_day(rt, &mut taxis);
+    let _ = taxis.settle(rt);
+    let events = taxis.close();
     let (callers, evening) = day?;
     Some(Day {
         callers,
         events,
         evening,
     })
-}
-
-// The history of a closed book.
-fn history_of<I: Index, D: LogDisk>(book: Book<I, D>) -> Entries {
-    book.into_parts().entries
 }
 
 // Three drivers and the dispatcher.
@@ -83,18 +59,15 @@ fn callers(alloc: Global) -> Option<Vec<Caller>>
 }
 
 // All sessions call at once. After them the dispatcher looks once more.
-fn call_all_day<I: Index + Send, D: LogDisk + Send, R: Threads + Wait + AllocGlobal + Sync>(
+fn call_all_day<I: Index + Send, R: Threads + Wait + AllocGlobal + Sync>(
     rt: &R,
-    client: &mut Client<'_, I, D, Brand>,
-) -> Option<(Vec<Caller>, Evening<I>)>
-    requires { 5 ≤ client.old.pass.parts }
-    ensures { Keeps client.old client.new }
-{
+    taxis: &mut MemoryStore<I>,
+) -> Option<(Vec<Caller>, Evening<I>)> {
     let alloc = rt.alloc();
-    let _ = client.put(rt, TAKEN.id, TAKEN.at, 0);
-    let _ = client.put(rt, WAITING.id, WAITING.at, 0);
-    let callers = client.work_all(rt, 1, callers(alloc)?).ok()?;
-    let view = client.view(rt).ok()?;
+    let _ = taxis.put(rt, TAKEN.id, TAKEN.at, 0);
+    let _ = taxis.put(rt, WAITING.id, WAITING.at, 0);
+    let callers = taxis.work_all(rt, 1, callers(alloc)?).ok()?;
+    let view = taxis.view(rt).ok()?;
     Some((callers, evening_of(alloc, view).ok()?))
 }
 

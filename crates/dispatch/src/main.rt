@@ -16,12 +16,9 @@ mod map;
 mod town;
 
 use callers::Caller;
-use commit_book::Book;
 use day::{Day, Evening, play_day};
-use disk_mem::MemDisk;
-use index_view::View;
-use kd_trie::KdTrie;
 use map::{TILES, tile};
+use pisrakun::{KdTrie, MemoryStore, View};
 use std::io;
 use std::io::Print;
 
@@ -80,10 +77,10 @@ fn tell_station(rt: &impl Print, evening: &Evening<KdTrie>) -> io::Result<()> {
 }
 
 fn main(rt: HostRuntime) -> io::Result<()> {
-    let Ok(book) = Book::<KdTrie, MemDisk>::fresh(rt.alloc(), BUCKET) else {
+    let Ok(taxis) = MemoryStore::<KdTrie>::in_memory(rt.alloc(), BUCKET) else {
         return println!(rt; "no memory");
     };
-    match play_day(&rt, book) {
+    match play_day(&rt, taxis) {
         Some(day) => tell(&rt, &day),
         None => println!(rt; "no memory"),
     }

@@ -1,12 +1,10 @@
 //! What the dispatcher reads from a view: a map, the taxis near the station, and the nearest free one.
 ghost use Rattle.std.specs.Prelude.{◌<◌};
-ghost use Rattle.zorder.specs.Region.{IsBox};
+ghost use Rattle.pisrakun.specs.Region.{IsBox};
 
 use crate::town::{STATION, is_free};
-use index_layer::Index;
-use index_view::View;
+use pisrakun::{Index, Memory, Placed, Point, Region, View};
 use std::alloc::Global;
-use zorder::{Memory, Placed, Point, Region};
 
 /// The map has so many tiles in a row, and so many rows.
 pub const TILES: u32 = 4;

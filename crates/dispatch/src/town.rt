@@ -1,8 +1,7 @@
 //! The taxis, the calls of each driver, and their right answers.
-ghost use Rattle.plain_list.specs.Answer.{IsValid};
+ghost use Rattle.pisrakun.specs.Answer.{IsValid};
 
-use plain_list::{Answer, Op, Stamped};
-use zorder::{Placed, Point};
+use pisrakun::{Answer, Op, Placed, Point, Stamped};
 
 /// The dispatcher's session. The sessions with lesser numbers are drivers.
 pub const DISPATCHER: u8 = 4;

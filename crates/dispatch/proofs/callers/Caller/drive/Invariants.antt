@@ -1,4 +1,4 @@
-use Rattle.store_client.specs.Caller.{Keeps}
+use Rattle.pisrakun.specs.Caller.{Keeps}
 use Rattle.dispatch.proofs.callers.Caller.drive.Given as goal
 
 abbrev pub invariant-loop-row : goal.invariant-loop-row
