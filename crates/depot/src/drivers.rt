@@ -4,8 +4,8 @@ ghost use Rattle.pisrakun.specs.Caller.{Keeps};
 
 use crate::yard::{Day, ROWS, VANS, van_of, yard};
 use pisrakun::{
-    Change, Client, Crossing, Event, Fence, FenceCount, Fences, Index, Listed, LogDisk, Placed,
-    Start, Tally, WatchFault, Work,
+    Change, Client, Crossing, Event, Fence, FenceCount, Fences, Index, Listed, LogDisk,
+    ObjectStore, Placed, Start, Tally, WatchFault, Work,
 };
 use std::alloc::Global;
 use std::sync::Wait;
@@ -51,18 +51,16 @@ fn inside(counts: &[FenceCount]) -> u64 {
 }
 
 impl Driver {
-    /// A driver in the morning, with the vans that a client finds in the yard.
+    /// A driver in the morning, with the vans that are in the yard.
     pub fn new<I: Index, D: LogDisk, O: Start, R: Wait>(
         rt: &R,
         alloc: Global,
-        client: &mut Client<'_, I, D, O>,
+        store: &mut ObjectStore<I, D, O>,
         number: u8,
         day: Day,
-    ) -> Option<Driver>
-        ensures { Keeps client.old client.new }
-    {
+    ) -> Option<Driver> {
         let fence = yard(number);
-        let Ok(Listed::All(vans)) = client.within(rt, fence.region) else {
+        let Ok(Listed::All(vans)) = store.within(rt, fence.region) else {
             return None;
         };
         Some(Driver {
@@ -116,15 +114,13 @@ impl<R: Wait> Work<R> for Driver {
 /// How many of a driver's vans are where the day left them.
 pub fn count_found<I: Index, D: LogDisk, O: Start, R: Wait>(
     rt: &R,
-    client: &mut Client<'_, I, D, O>,
+    store: &mut ObjectStore<I, D, O>,
     driver: u8,
     day: Day,
-) -> u32
-    ensures { Keeps client.old client.new }
-{
+) -> u32 {
     let mut found: u32 = 0;
     for row in ROWS - VANS..ROWS {
-        let told = client.find(rt, van_of(driver, row));
+        let told = store.find(rt, van_of(driver, row));
         let is_there = told == Ok(Some(day.place(driver, row)));
         found = found.saturating_add(u32::from(is_there));
     }

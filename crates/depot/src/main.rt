@@ -10,16 +10,13 @@
 //! numbers of entries and records depend on the order of the threads.
 #![tactic(auto)]
 
-ghost use Rattle.std.specs.Prelude.{IfOk};
-ghost use Rattle.pisrakun.specs.Opened.{IsFirst};
-
 mod day;
 mod drivers;
 mod trouble;
 mod yard;
 
 use day::{DayEnd, look_after, play_days};
-use pisrakun::{FileDisk, KdTrie, LogDisk, OpenedEither, Which, open_either};
+use pisrakun::{FileDisk, FileStore, Found, KdTrie, LogDisk, OpenedPair, Which};
 use std::alloc::Global;
 use std::fs::Files;
 use std::io;
@@ -67,10 +64,8 @@ fn open_vans<D: LogDisk>(
     alloc: Global,
     first: D,
     second: D,
-) -> Result<OpenedEither<KdTrie, D>, Trouble>
-    ensures { IfOk result (λ o. IsFirst o.store o.pass) }
-{
-    let opened = open_either::<KdTrie, D>(alloc, first, FIRST, second, SECOND, BUCKET);
+) -> Result<OpenedPair<KdTrie, D>, Trouble> {
+    let opened = FileStore::<KdTrie, D>::open_pair(alloc, first, FIRST, second, SECOND, BUCKET);
     opened.map_err(|refused| Trouble::Open(refused.cause))
 }
 
@@ -81,18 +76,20 @@ fn work<R: Threads + Wait + Sync + AllocGlobal + Print, D: LogDisk + Send>(
     second: D,
 ) -> Result<Day, Trouble> {
     let alloc = rt.alloc();
-    let OpenedEither {
+    let OpenedPair {
         store,
-        pass,
-        points,
-        latest,
-        records,
         spare,
         which,
+        found,
     } = open_vans(alloc, first, second)?;
+    let Found {
+        objects,
+        latest,
+        records,
+    } = found;
     let day = Day::behind(latest.unwrap_or(0));
-    let days = play_days(rt, alloc, store, pass, spare, day);
-    println!(rt; "{}: {points} vans in {records} records", file_of(which))?;
+    let days = play_days(rt, alloc, store, spare, day);
+    println!(rt; "{}: {objects} vans in {records} records", file_of(which))?;
     let [first, second] = days?;
     tell_day(rt, 1, &first)?;
     tell_day(rt, 2, &second)?;
@@ -107,22 +104,21 @@ fn look_again<R: Wait + AllocGlobal + Print, D: LogDisk>(
     day: Day,
 ) -> Result<(), Trouble> {
     let alloc = rt.alloc();
-    let OpenedEither {
+    let OpenedPair {
         store,
-        pass,
-        points,
-        latest: _,
-        records,
         spare: _,
         which,
+        found,
     } = open_vans(alloc, first, second)?;
-    let found = look_after(rt, alloc, store, pass, day);
+    let left = look_after(rt, store, day);
     println!(rt;
-        "{}: opened again, {points} vans in {records} records",
-        file_of(which)
+        "{}: opened again, {} vans in {} records",
+        file_of(which),
+        found.objects,
+        found.records
     )?;
-    for (i, found) in found.iter().enumerate() {
-        println!(rt; "driver {}: {found} vans where they were left", i + 1)?;
+    for (i, left) in left.iter().enumerate() {
+        println!(rt; "driver {}: {left} vans where they were left", i + 1)?;
     }
     Ok(())
 }
