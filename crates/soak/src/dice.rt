@@ -1,4 +1,4 @@
-//! Numbers of a seed.
+//! Numbers that a seed determines.
 ghost use Rattle.std.specs.Prelude.{◌<◌};
 
 use zorder::Point;
@@ -26,7 +26,7 @@ impl Dice {
         mixed ^ (mixed >> 31)
     }
 
-    /// A number below this one.
+    /// Returns a number below this one.
     pub fn below(&mut self, end: u32) -> u32
         requires { 0 < end }
         ensures { result < end }
@@ -34,12 +34,12 @@ impl Dice {
         (self.next() % u64::from(end)) as u32
     }
 
-    /// Any number of 32 bits.
+    /// Returns any number of 32 bits.
     pub fn any(&mut self) -> u32 {
         (self.next() >> 32) as u32
     }
 
-    /// A position. One in eight is in a small corner, where leaves are split again and again.
+    /// Returns a position. One in eight is in a small corner, where leaves are split again and again.
     pub fn place(&mut self) -> Point {
         let small = if self.below(8) == 0 { 8 } else { 0 };
         Point {

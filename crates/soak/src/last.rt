@@ -1,4 +1,4 @@
-//! All objects, at the end.
+//! Looks up all objects at the end of a run.
 ghost use Rattle.store_client.specs.Caller.{Keeps};
 
 use crate::judge::Judge;

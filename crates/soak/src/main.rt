@@ -10,6 +10,10 @@
 //! A check of a box or a near goes over all objects. So if there are n objects, it checks one in n / 100 of these
 //! queries. At the end it looks up all objects. A difference is reported, and the run ends with status 1.
 //!
+//! Before each renewal the run takes a view, and holds it until it is 10,000 calls old. After each history it compares
+//! all views that it holds with what the map had when they were taken: how many objects there were, how many were in a
+//! box and which, and which were the nearest of a point.
+//!
 //! With `files` the store has a log in one of these two files, which must have no objects. Instead of a renewal the
 //! store is rotated: it continues over a fresh log in the other file. Each second rotation builds new leaves. The run
 //! prints each renewal or rotation with its time, how many boxes and nears were checked, and how many objects there are
@@ -38,6 +42,7 @@ mod soak;
 mod soaker;
 mod trouble;
 mod turns;
+mod views;
 
 use commit_book::Book;
 use disk_file::FileDisk;
@@ -234,6 +239,10 @@ fn run<R: Threads + Wait + Sync + AllocGlobal + Clock + Env + Print, D: LogDisk 
         println!(rt;
             "boxes and nears looked at {}, told {} objects",
             judge.lists, judge.listed
+        )?;
+        println!(rt;
+            "views looked at {}, the oldest {} calls old",
+            judge.views, judge.oldest
         )?;
         println!(rt; "objects {}", judge.kept.len())?;
     }

@@ -7,9 +7,11 @@ use crate::last::look_at_all;
 use crate::plan::Plan;
 use crate::soaker::Soaker;
 use crate::trouble::Trouble;
+use crate::views::{Views, view_of};
 use book_lock::Pass;
 use disk_trait::LogDisk;
 use index_layer::Index;
+use index_view::View;
 use plain_list::Entry;
 use sessions::{NotRenewed, Renewed, SharedBook, Start, Store};
 use std::alloc::Global;
@@ -81,9 +83,10 @@ pub fn play<I: Index + Send, D: LogDisk + Send, R: Threads + Wait + Sync + Clock
 {
     let mut crew = crew_of(alloc, plan);
     let mut judge = Judge::new(alloc);
-    let mut done = Ok(false);
+    let mut views = Views::new(alloc);
     for _ in 0..u64::MAX {
         let back = play_round(rt, alloc, &store, pass, &mut crew);
+        let (view, back) = view_of(rt, alloc, &store, back);
         let Renewed {
             store: next,
             pass: whole,
@@ -91,12 +94,16 @@ pub fn play<I: Index + Send, D: LogDisk + Send, R: Threads + Wait + Sync + Clock
         } = renew(rt, alloc, store, back, tells)?;
         store = next;
         pass = whole;
-        done = look(alloc, &mut judge, entries.as_slice(), &mut crew);
-        if !matches!(done, Ok(false)) {
-            break;
+        let done = look(alloc, &mut judge, entries.as_slice(), &mut crew);
+        match look_at_views(&mut views, view, &mut judge, done) {
+            Ok(false) => {}
+            done => {
+                end(rt, alloc, store, pass, &judge, done)?;
+                return Ok(judge);
+            }
         }
     }
-    end(rt, alloc, store, pass, &judge, done)?;
+    end(rt, alloc, store, pass, &judge, Ok(false))?;
     Ok(judge)
 }
 
@@ -117,9 +124,10 @@ pub fn play_over_files<
 {
     let mut crew = crew_of(alloc, plan);
     let mut judge = Judge::new(alloc);
-    let mut done = Ok(false);
+    let mut views = Views::new(alloc);
     for turn in 0..u64::MAX {
         let back = play_round(rt, alloc, &store, pass, &mut crew);
+        let (view, back) = view_of(rt, alloc, &store, back);
         let Rotated {
             store: next,
             pass: whole,
@@ -129,12 +137,16 @@ pub fn play_over_files<
         store = next;
         pass = whole;
         spare = left;
-        done = look(alloc, &mut judge, entries.as_slice(), &mut crew);
-        if !matches!(done, Ok(false)) {
-            break;
+        let done = look(alloc, &mut judge, entries.as_slice(), &mut crew);
+        match look_at_views(&mut views, view, &mut judge, done) {
+            Ok(false) => {}
+            done => {
+                end(rt, alloc, store, pass, &judge, done)?;
+                return Ok(judge);
+            }
         }
     }
-    end(rt, alloc, store, pass, &judge, done)?;
+    end(rt, alloc, store, pass, &judge, Ok(false))?;
     Ok(judge)
 }
 
@@ -168,6 +180,18 @@ fn look(
         soaker.replies = Vec::new(alloc);
     }
     Ok(crew.iter().all(|soaker| soaker.left == 0))
+}
+
+// Compares the views, if nothing is wrong so far.
+fn look_at_views<I: Index>(
+    views: &mut Views<I>,
+    view: Option<View<I>>,
+    judge: &mut Judge,
+    done: Result<bool, Trouble>,
+) -> Result<bool, Trouble> {
+    let is_done = done?;
+    views.look(view, judge)?;
+    Ok(is_done)
 }
 
 // Looks up all objects, if nothing is wrong so far, and closes the store.
@@ -265,7 +289,7 @@ fn why_not<I: Index, D: LogDisk>(refused: &NotRotated<I, D>) -> Trouble {
     }
 }
 
-/// All threads at once, until each has done its work. If memory runs out, no crew comes back.
+/// Runs all threads at once, until each has done its work. If memory runs out, no crew is returned.
 pub fn play_round<
     I: Index + Send,
     D: LogDisk + Send,

@@ -7,6 +7,7 @@ use std::alloc::AllocError;
 use std::io;
 use store_file::{EitherCause, RotateCause};
 use thiserror::Error;
+use zorder::Memory;
 
 /// Why a run ended early.
 #[derive(Debug, Drop, Error)]
@@ -39,12 +40,20 @@ pub enum Trouble {
     Count { calls: u64, replies: u64 },
     #[error("the store has {found} objects, and should have {should}")]
     Number { found: u64, should: u64 },
+    #[error("the view after {calls} calls isn't as the objects were then")]
+    View { calls: u64 },
     #[error("object {id} isn't found where it should be")]
     Object { id: u64 },
     #[error("thread {session}: {broken}")]
     Chain { session: u8, broken: Broken },
     #[error("{0}")]
     Output(#[from] io::Error),
+}
+
+impl From<Memory> for Trouble {
+    fn from(_: Memory) -> Trouble {
+        Trouble::Memory
+    }
 }
 
 impl From<AllocError> for Trouble {
