@@ -8,8 +8,8 @@
 //!
 //! The lock: THREADS threads take the lock at once, in ROUNDS rounds altogether. A round sleeps MICROSECONDS
 //! microseconds while it holds the lock. If that is 0, it is a quick round with RESTS short rests. With a PAUSE each
-//! thread takes one round in PAUSE microseconds. Meanwhile BATCH threads of a batch and BUSY others take rounds without
-//! a pause.
+//! thread takes one round in PAUSE microseconds. At the same time BATCH threads of a batch and BUSY others take rounds
+//! without a pause.
 //!
 //! The program prints only counts. One of them is the count of the value that the lock guards, if no others took
 //! rounds. You measure the time from outside, by `perf stat` or `time`, of a run with one of the parts and a run

@@ -18,7 +18,7 @@ pub(crate) struct Plan {
     pub(crate) keeps: bool,
 }
 
-/// How many of each were done. The last two count the points whose rows are there at the end, in the index and in the
+/// The counts of what was done. The last two count the points whose rows are there at the end, in the index and in the
 /// kept share.
 #[derive(Drop)]
 pub(crate) struct Done {

@@ -1,4 +1,4 @@
-//! A value that counts entries, all of which are the same call.
+//! A value that counts its entries. All of them are the same call.
 ghost use Rattle.std.specs.Prelude.{◌≡◌, [], ◌∷◌, ◌++◌, replicate, MatchBool};
 ghost use Rattle.benches.specs.Tally.{one_find};
 
