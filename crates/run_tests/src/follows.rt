@@ -235,8 +235,8 @@ fn where_the_sync_of_a_cell_fails_follow_leaves_it_or_not(rt: HostRuntime) {
     leaves_none_or_one(&rt, rt.alloc());
 }
 
-// Logs of one cell or two, as NEW: put 8 at (3,5); put 7 at (3,6); put 7 at (3,5) with moment 1; put 7 at (3,5) and
-// move 7 to (3,5); and put 8 at (3,5) with a cell of kind 9 after it.
+// Five logs that NEW may have. The first three have one cell: put 8 at (3,5); put 7 at (3,6); put 7 at (3,5) with
+// moment 1. The fourth has put 7 at (3,5) and move 7 to (3,5). The fifth has put 8 at (3,5) and a cell of kind 9.
 const OTHER_ID: &[u8] = b"MDLOCLOG\x02\x01\0\0\0\0\0\0\
     \x01\x01\0\0\0\0\0\0\0\x08\0\0\0\x03\0\0\0\x05\0\0\0\0\0\0\0\0\0\0\0\0\0\0\
     \0";

@@ -1,4 +1,4 @@
-//! A world of all the objects that it may have, through a log of their puts, and `follow` of that log.
+//! A world with as many objects as it may have, which a log of their puts leaves, and `follow` of that log.
 use crate::checks::holds;
 use crate::hostile::records::{DROP, Record};
 use crate::memory::{Plan, run_both, run_over};

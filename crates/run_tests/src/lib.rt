@@ -1,11 +1,16 @@
-//! Tests of the top call over sources, sinks and drives in memory, and no other code.
-//!
-//! Worked rows and their lines, without a log and over one; the commands over a log with worked files; each refusal's
-//! line and status; faults of all ends; the bytes that rows leave; which files are attached; and words that name no
-//! command. `hostile` tests what can go wrong around the call.
+//! Tests of the top call over sources, sinks and drives in memory, and no other code:
+//! - worked rows and their lines, without a log and over one;
+//! - the commands over a log with worked files;
+//! - the line and the status of each refusal;
+//! - runs in which an end fails;
+//! - the bytes that rows leave, and which files are attached;
+//! - words that name no command;
+//! - what can go wrong around the call (`hostile`).
 //!
 //! Each test compares plain bytes, in functions over a runtime. A proof that knows a drive, a host or the promise of
 //! `run` takes several times as long.
+//!
+//! Not here: the lock and its sessions (`thread_tests`), and the worked values of single crates (`crate_tests`).
 #![tactic(auto)]
 
 // An input of these rows.

@@ -51,7 +51,7 @@ const SEVERAL: &Case<'static> = &Case {
     ..NO_LOG
 };
 
-// `?` stands for any place.
+// `?` is any place.
 const IN_ORDER: &str = lines!("1,?,done,\n2,?,done,\n3,?,absent,\n4,?,at,3:5:0\n5,?,moved,4:6:0\n");
 
 fn are_but_for_places(lines: &[u8], wanted: &[u8]) -> bool {

@@ -39,7 +39,8 @@ const AGAIN: Case<'static> = Case {
     ..OVER
 };
 
-// Seed 2 gives a put of 1717 at (3938983765, 2969520912), with moment 60104. Seed 1 gives a box, and seed 0 a move.
+// The row of seed 2 is a put of 1717 at (3938983765, 2969520912), with moment 60104. That of seed 1 is a box, and that
+// of seed 0 is a move.
 const ONE_ROW: &[Case<'static>] = &[
     TRIAL,
     Case {

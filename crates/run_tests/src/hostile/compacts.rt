@@ -1,4 +1,4 @@
-//! Each call of the second drive fails once in a run of `compact`. What a crash leaves of its file.
+//! Each call of the second drive fails once in a run of `compact`. The tests look at what a crash leaves of its file.
 use crate::hostile::records::{ABANDON, BEGIN, DROP, INSTALL, MOVE, PUT, Record, front, log_of};
 use crate::hostile::runs::{Image, found_in, images_on, is_log_of, must};
 use crate::memory::{Left, Plan, run_both};

@@ -1,4 +1,4 @@
-//! Each call of the second drive fails once in a run of `follow`. What a crash leaves of its file.
+//! Each call of the second drive fails once in a run of `follow`. The tests look at what a crash leaves of its file.
 use crate::hostile::machine::{Turn, input_of, told_of};
 use crate::hostile::records::{MOVE, PUT, Record, front, log_of};
 use crate::hostile::runs::{Image, following, found_in, images_on, is_log_of, is_refused, must};

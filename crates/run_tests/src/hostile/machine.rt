@@ -11,8 +11,8 @@ pub enum Turn {
     Restart,
 }
 
-/// How many cells the leader and NEW have; how many of these the leader knows of; what packets name, and what
-/// acknowledgements say.
+/// The state of a follower. It says how many cells the leader has, how many NEW has, and how many of these the leader
+/// knows of. It also has what packets name, and what acknowledgements say.
 #[derive(Drop)]
 pub struct Follower {
     pub count: u64,

@@ -170,9 +170,9 @@ fn line_of(alloc: Global, row: u32, place: u64, told: Told) -> Result<String, Al
     }
 }
 
-// A history told again: where the object is, the records of its changes, its calls with their answers, the line of each
-// row at its place in the input, and how many rows of each session were called. If an append failed, its record is the
-// last one.
+// What a history says. It has the place of the object, the records of its changes, and its calls with their answers. It
+// also has the line of each row at its place in the input, and how many rows of each session were called. If an append
+// failed, its record is the last one.
 #[derive(Drop)]
 struct Tale {
     script: Script,
@@ -278,7 +278,7 @@ impl Tale {
     }
 }
 
-// Tells the history of a run of so many rows of each session.
+// The tale of the history of a run, which has so many rows of each session.
 fn tale_of<R: Abort>(rt: &R, alloc: Global, script: Script, each: u32, events: &[Entry]) -> Tale {
     let mut tale = Tale::new(alloc, script, each).expect(rt, "it failed");
     for event in events {

@@ -1,4 +1,4 @@
-//! The bytes of a log, written and read as docs/FORMATS has them, by code that shares nothing with the program's.
+//! The bytes of a log, written and read as docs/FORMATS has them. This code shares nothing with the program's.
 use plain_list::Stamped;
 use std::alloc::{AllocError, Global};
 use zorder::Point;
