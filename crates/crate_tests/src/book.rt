@@ -16,6 +16,7 @@ macro_rules! at {
     };
 }
 
+mod batches;
 mod books;
 mod calls;
 mod deltas;

@@ -42,14 +42,24 @@ fn told(done: Result<Done, BookFault>) -> Result<Told, BookFault> {
 }
 
 fn told_of(done: &Done) -> Told {
-    match done.answer {
-        Answer::Done => (done.place, "done", None),
-        Answer::Present(kept) => (done.place, "present", numbers(kept)),
-        Answer::Moved(kept) => (done.place, "moved", numbers(kept)),
-        Answer::Stale(kept) => (done.place, "stale", numbers(kept)),
-        Answer::Gone(kept) => (done.place, "gone", numbers(kept)),
-        Answer::At(kept) => (done.place, "at", numbers(kept)),
-        _ => (done.place, "other", None),
+    let (word, numbers) = said_of(&done.answer);
+    (done.place, word, numbers)
+}
+
+/// A word for an answer, and a position with its moment.
+pub type Said = (&'static str, Option<[u64; 3]>);
+
+/// The word for an answer, and the position in it.
+pub fn said_of(answer: &Answer) -> Said {
+    match *answer {
+        Answer::Done => ("done", None),
+        Answer::Present(kept) => ("present", numbers(kept)),
+        Answer::Moved(kept) => ("moved", numbers(kept)),
+        Answer::Stale(kept) => ("stale", numbers(kept)),
+        Answer::Gone(kept) => ("gone", numbers(kept)),
+        Answer::At(kept) => ("at", numbers(kept)),
+        Answer::Absent => ("absent", None),
+        _ => ("other", None),
     }
 }
 
