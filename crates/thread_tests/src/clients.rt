@@ -1,5 +1,5 @@
-//! A client's verbs: each answer that they may have, except that the world is full; what a call has changed, its place,
-//! and what one client learns from another.
+//! The verbs of a client, with each answer that they may have, except that the world is full. The tests also look at
+//! what a call has changed, at its place, and at what one client learns from another.
 ghost use Rattle.std.specs.Prelude.{◌≡◌};
 ghost use Rattle.plain_list.specs.Answer.{IsValid};
 ghost use Rattle.store_client.specs.Caller.{Keeps};
@@ -112,7 +112,7 @@ fn moves<I: Index, D: LogDisk, R: Wait>(
     ]
 }
 
-// Two that are found, or not, and two that are removed, or not.
+// One find returns the object, and one finds none. One removal returns the object, and one finds none.
 const SEEN: [Option<Option<Stamped>>; 4] = [
     Some(Some(there!(4))),
     Some(None),
@@ -253,7 +253,7 @@ fn tells_its_places<I: Index, D: LogDisk, R: Wait + Abort>(rt: &R, alloc: Global
     assert_same!(rt; told, PLACES);
 }
 
-// What one client put, another one finds after it has learned from the first.
+// After a client has learned from another one, it finds what the other one put.
 fn learns_what_another_put<I: Index, D: LogDisk, R: Wait + Abort>(rt: &R, alloc: Global) {
     let (store, pass) = new_store::<I, D>(rt, alloc);
     let mut one = Client::new(&store, alloc, pass, 1);
@@ -267,9 +267,9 @@ fn learns_what_another_put<I: Index, D: LogDisk, R: Wait + Abort>(rt: &R, alloc:
     assert_same!(rt; found, Some(Some(here!(3))));
 }
 
-// The second client gets four parts. It gives two to the third, which gives one to the fourth, and it gives one to the
-// fifth. The second finds what the third and the fourth put after it has taken them in, and the fifth does after it has
-// learned from the second.
+// The second client gets four parts. It gives two to the third and one to the fifth, and the third gives one to the
+// fourth. After the second has taken in both, it finds what the third put. The fifth finds what the fourth put, after
+// it has learned from the second.
 fn gives_parts_on<I: Index, D: LogDisk, R: Wait + Abort>(rt: &R, alloc: Global) {
     let (store, pass) = new_store::<I, D>(rt, alloc);
     let mut one = Client::new(&store, alloc, pass, 1);
@@ -291,7 +291,7 @@ fn gives_parts_on<I: Index, D: LogDisk, R: Wait + Abort>(rt: &R, alloc: Global) 
     assert_same!(rt; events, 4);
 }
 
-// How many objects are put in a row: one more than a list has room for.
+// How many objects are put one after the other. It is one more than a list has room for.
 const MANY: u32 = 2_049;
 
 fn put_many<I: Index, D: LogDisk, R: Wait>(rt: &R, client: &mut Client<'_, I, D, Brand>)

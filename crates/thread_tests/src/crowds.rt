@@ -27,8 +27,8 @@ fn reached(from: u32) -> Option<u32> {
     Some(from.saturating_add(REACH))
 }
 
-// The operation of a session's row, and its fields: its puts, and then every operation in turn on the ids that it has
-// put. A moment looks random too, so that some moves are late.
+// The operation of a session's row, and its fields. The first rows are puts. The others make each operation
+// alternately, on the ids that the session has put. A moment looks random too, so that some moves are late.
 fn fields_of(session: u32, row: u32) -> (&'static str, [Option<u32>; 6]) {
     let number = session.wrapping_mul(1_000).wrapping_add(row % PUTS);
     let corner = (spread(number), spread(row));

@@ -1,4 +1,5 @@
-//! The texts of a refused call, a refused renewal or rotation, and a refused opening in memory or of two files.
+//! The texts of a refused call, an operation that is not added to a batch, a refused renewal or rotation, and a refused
+//! opening in memory or of two files.
 use commit_book::RenewFault;
 use pisrakun::NotInMemory;
 use recovery::OpenFault;
@@ -6,6 +7,7 @@ use sessions::CallFault;
 use std::alloc::Global;
 use std::fmt::Display;
 use std::process::Abort;
+use store_client::NotAdded;
 use store_file::{EitherCause, OpenCause, RotateCause};
 
 const REFUSED: &[(CallFault, &str)] = &[
@@ -21,6 +23,11 @@ const REFUSED: &[(CallFault, &str)] = &[
     (CallFault::LogFull, "the log is full"),
     (CallFault::Memory { place: None }, "out of memory"),
     (CallFault::Memory { place: Some(3) }, "out of memory"),
+];
+
+const NOT_ADDED: &[(NotAdded, &str)] = &[
+    (NotAdded::TooLong, "the batch is full"),
+    (NotAdded::Memory, "out of memory"),
 ];
 
 const NOT_RENEWED: &[(RenewFault, &str)] = &[
@@ -109,6 +116,13 @@ fn expect_text(rt: &impl Abort, alloc: Global, fault: &impl Display, text: &str)
 #[test]
 fn a_refused_call_tells_its_cause(rt: HostRuntime) {
     for (fault, text) in REFUSED {
+        expect_text(&rt, rt.alloc(), fault, text);
+    }
+}
+
+#[test]
+fn an_operation_that_is_not_added_tells_its_cause(rt: HostRuntime) {
+    for (fault, text) in NOT_ADDED {
         expect_text(&rt, rt.alloc(), fault, text);
     }
 }

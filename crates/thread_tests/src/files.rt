@@ -364,7 +364,7 @@ fn unopened<I: Index, D: LogDisk>(
     }
 }
 
-// Fails unless the store isn't opened for this reason, and its drive comes back with the bytes that it had.
+// Fails unless the store isn't opened for this reason, and its drive is returned with the bytes that it had.
 fn expect_unopened(rt: &impl Abort, alloc: Global, file: &[&[u8]], bucket: u32, wanted: OpenCause) {
     let disk = disk_with(rt, alloc, file);
     let NotOpened { disk, cause } = unopened::<FlatIndex, MemDisk>(rt, alloc, disk, bucket);
@@ -387,7 +387,7 @@ fn refused<I: Index, D: LogDisk>(
     }
 }
 
-// Fails unless neither is opened for this reason, and both drives come back with the bytes that they had.
+// Fails unless neither file is opened for this reason, and both drives are returned with the bytes that they had.
 fn expect_refused(
     rt: &impl Abort,
     alloc: Global,

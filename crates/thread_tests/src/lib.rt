@@ -6,6 +6,9 @@
 //! - the objects of a store;
 //! - the texts of refused calls;
 //! - a store that is renewed, and stores over files, also when they continue over a second file.
+//!
+//! Not here: what can go wrong around the top call (`run_tests`), and the worked values of single crates
+//! (`crate_tests`).
 #![tactic(auto)]
 
 // `assert!` and `assert_eq!` as calls. They make the proof of a function with several of them much shorter.
@@ -23,6 +26,8 @@ macro_rules! assert_same {
     };
 }
 
+#[cfg(test)]
+mod batches;
 #[cfg(test)]
 mod checks;
 #[cfg(test)]

@@ -58,7 +58,17 @@ pub(crate) fn disk_of(rt: &impl Abort, alloc: Global, bytes: &[u8], failing: &[F
 }
 
 pub(crate) fn disk_with(rt: &impl Abort, alloc: Global, pieces: &[&[u8]]) -> MemDisk {
-    disk_of(rt, alloc, bytes_of(rt, alloc, pieces).as_slice(), &[])
+    failing_disk(rt, alloc, pieces, &[])
+}
+
+// The same, and these of its calls fail.
+pub(crate) fn failing_disk(
+    rt: &impl Abort,
+    alloc: Global,
+    pieces: &[&[u8]],
+    failing: &[Fail],
+) -> MemDisk {
+    disk_of(rt, alloc, bytes_of(rt, alloc, pieces).as_slice(), failing)
 }
 
 // Fails unless a drive has these bytes.

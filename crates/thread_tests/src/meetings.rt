@@ -1,4 +1,5 @@
-//! Works of a team that wait for one another: each has come to a meeting before any of them ends, so they run at once.
+//! Works of a team that wait for one another. All are at a meeting before any of them ends, so they run at the same
+//! time.
 ghost use Rattle.std.specs.Prelude.{◌<◌, vec_len};
 ghost use Rattle.store_client.specs.Caller.{Keeps};
 
@@ -20,10 +21,11 @@ use zorder::Point;
 
 const HERE: Point = Point { x: 5, y: 5 };
 
-// How often one who has come looks whether all have, a millisecond apart. So works that run one after another fail, and end.
+// How often a work at the meeting looks whether all others are there. It looks once a millisecond. So works that run
+// one after another fail, and end.
 const MOST_LOOKS: u32 = 5_000;
 
-// So many are to come to it.
+// A meeting of `wanted` works.
 #[derive(Drop)]
 struct Meeting {
     wanted: u64,
@@ -44,7 +46,7 @@ impl Meeting {
         self.come.load(Ordering::SeqCst) >= self.wanted
     }
 
-    // Comes to it, and says whether all others have come meanwhile.
+    // Joins the meeting, and returns whether all others joined it before any work gave up.
     fn attend<R: Clock>(&self, rt: &R) -> bool {
         self.come.fetch_add(1, Ordering::SeqCst);
         for _ in 0..MOST_LOOKS {
@@ -61,7 +63,7 @@ impl Meeting {
     }
 }
 
-// Puts an object of its own and then comes to the meeting.
+// A work that puts an object of its own, and then joins the meeting.
 #[derive(Drop)]
 struct Member<'m> {
     meeting: &'m Meeting,

@@ -288,7 +288,7 @@ const ON_FIRST: &[(DiskCall, u64)] = &[
     (DiskCall::Sync, 12),
 ];
 
-// Both drives of a rotation whose first drive fails, that of the book last, and how many entries came back.
+// Both drives of a rotation whose first drive fails, that of the book last, and how many entries were returned.
 fn uncleared<I: Index, D: LogDisk, R: Wait + Abort>(
     rt: &R,
     alloc: Global,
@@ -383,15 +383,15 @@ fn a_first_drive_that_fails_leaves_the_second_log(rt: HostRuntime) {
     }
 }
 
-// At each moment of a rotation: of one drive while the other one rests.
+// A crash at each moment of a rotation on one drive, while no call reaches the other drive.
 #[test]
 fn a_crash_in_a_rotation_leaves_the_objects(rt: HostRuntime) {
     keeps_its_objects(&rt, rt.alloc(), Leaves::AsTheyAre);
     keeps_its_objects(&rt, rt.alloc(), Leaves::Anew);
 }
 
-// What a crash may leave of two files. Both logs. The old log, and a second file that isn't created, is short, or has
-// records that don't count yet. Or the new log, and an old one whose first commit byte is clear.
+// A crash may leave both logs. It may leave the old log, and a second file that isn't created, is short, or has records
+// that don't count yet. Or it may leave the new log, and an old log whose first commit byte is clear.
 #[test]
 fn the_same_objects_are_found_wherever_a_rotation_ends(rt: HostRuntime) {
     let old = (2, Some(20), 4, FIRST_TWO);

@@ -1,6 +1,6 @@
-//! A lock around a sheet of entries: what one pass adds comes back, what one passes on to another, and threads that run
-//! at the same time. These are prompt or of a batch, and some sleep at the lock. One that isn't woken would sleep for
-//! ever, and the test would time out.
+//! A lock around a sheet of entries. The tests show what one pass adds, what it passes on to another pass, and what
+//! threads add at the same time. The threads are prompt or of a batch, and some sleep at the lock. If one of them isn't
+//! woken, it sleeps for ever and the test times out.
 ghost use Rattle.std.specs.Prelude.{◌≡◌, ℕ, ◌+◌, ◌<◌, ◌≤◌, ◌++◌, [], ◌∷◌, false, MatchBool};
 ghost use Rattle.std.specs.Thread.{IsSync};
 ghost use Rattle.plain_list.specs.declared.entries.Entry.{Entry};
@@ -24,7 +24,7 @@ struct Sheet {
     is_slow: bool,
 }
 
-// What the sessions do: each adds so many rows, and each time sleeps for this long while it holds the lock. The first
+// What the sessions do. Each adds `rows` rows, and each time sleeps for `asleep` while it holds the lock. The first
 // `of_batch` sessions are of a batch.
 #[derive(Clone, Copy)]
 struct Plan {

@@ -1,4 +1,4 @@
-//! Stores over new books, and what is left of one that is closed.
+//! Stores over new books, and what is left of a store that is closed.
 ghost use Rattle.std.specs.Prelude.{◌≡◌};
 ghost use Rattle.store_client.specs.Caller.{IsFree};
 

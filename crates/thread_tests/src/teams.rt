@@ -1,4 +1,4 @@
-//! Teams of a client: any number of works at the same time, in order. Each has a thread and a session of its own.
+//! Teams of a client: any number of works at the same time, in order. Each work has a thread and a session of its own.
 ghost use Rattle.std.specs.Prelude.{◌<◌, vec_len};
 ghost use Rattle.store_client.specs.Caller.{Keeps};
 
@@ -16,7 +16,7 @@ use std::thread::Threads;
 use store_client::{Client, PutReply, Work};
 use zorder::Point;
 
-// Puts an object of its own.
+// A work that puts an object of its own.
 #[derive(Clone, Copy)]
 struct Putter {
     id: u64,
@@ -105,7 +105,7 @@ fn calls(entries: &[Entry]) -> usize {
         .count()
 }
 
-// The places of so many calls are 1 to that number.
+// If a team makes n calls, their places are 1 to n.
 fn works_all<R: Threads + Wait + Sync + Abort>(
     rt: &R,
     alloc: Global,

@@ -1,4 +1,4 @@
-//! Views of a store: each stays as it is while the store changes, and when it has ended.
+//! Views of a store. Each view stays unchanged while the store changes, and after the store has ended.
 ghost use Rattle.store_client.specs.Caller.{Keeps};
 
 use crate::stores::{events_of, new_store};
@@ -38,7 +38,7 @@ fn views<I: Index, D: LogDisk, R: Wait>(
     (first, client.view(rt).ok())
 }
 
-// Whether a view is of so many calls and so many objects, and so many of these are around the one place.
+// Whether there is a view of this place with `all` objects, `here` of them around the one point.
 fn has_seen<I: Index>(view: &Option<View<I>>, place: u64, all: u64, here: u64) -> bool {
     let Some(view) = view else {
         return false;
