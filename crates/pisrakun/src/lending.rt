@@ -1,4 +1,5 @@
 //! A client of a store for a while.
+ghost use Rattle.std.specs.Prelude.{◌≡◌};
 ghost use Rattle.store_client.specs.Caller.{Keeps};
 ghost use Rattle.pisrakun.specs.Team.{DoneWith};
 
@@ -26,6 +27,7 @@ pub trait Errand<R: Wait> {
         rt: &R,
         client: &mut Client<'_, I, D, O>,
     ) -> Self::Answer
+        requires parts { client.old.pass.parts ≡ 65535 }
         ensures done { done self client.old client.new result }
         ensures client { Keeps client.old client.new };
 }
