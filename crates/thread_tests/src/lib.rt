@@ -57,6 +57,8 @@ mod memory_stores;
 #[cfg(test)]
 mod numbered;
 #[cfg(test)]
+mod object_stores;
+#[cfg(test)]
 mod orders;
 #[cfg(test)]
 mod passes;
