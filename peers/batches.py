@@ -15,8 +15,8 @@ eight make the batches. The head of src/batches.cpp describes the work and the p
 --json FILE        adds each run as a line
 
 PROGRAM takes the words FILE SIZE THREADS CHANGES, creates a store over a log in FILE, and puts the same objects. Then its threads make the
-same changes, CHANGES of all threads together. It prints `changes N nanos T`. Short runs before the first one determine how many changes it
-makes in about as many seconds as the peers have.
+same changes, CHANGES of all threads together. It prints `changes N nanos T` and `right answers N`. Short runs before the first one
+determine how many changes it makes in about as many seconds as the peers have.
 
 After each run of RocksDB, LMDB or SQLite, the sum over its objects is compared with the one that Python works out. Runs before the times
 compare all stores, one thread and eight. The objects of PROGRAM are then those in its log, read as docs/FORMATS.md says.
@@ -92,7 +92,10 @@ def ran(words):
     lines = [line.split() for line in got.stdout.splitlines()]
     if got.returncode or not lines or lines[0][::2] != ['changes', 'nanos']:
         sys.exit(f'{words}: status {got.returncode}: {got.stdout[-200:]} {got.stderr[-200:]}')
-    more = {line[0]: [int(word) for word in line[1:]] for line in lines[1:]}
+    more = {line[0]: line[1:] for line in lines[1:]}
+    if more.pop('right', ['answers', lines[0][1]]) != ['answers', lines[0][1]]:
+        sys.exit(f'{words}: WRONG answers: {got.stdout[-200:]}')
+    more = {name: [int(word) for word in numbers] for name, numbers in more.items()}
     return Run(int(lines[0][1]), int(lines[0][3]), more.get('made'), more.get('sum', [None])[0])
 
 
