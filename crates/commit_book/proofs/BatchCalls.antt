@@ -41,16 +41,16 @@ use Rattle.commit_book.proofs.RefusalLemmas.{neither, going_on}
 -- what lets a batch be made
 pub record MayBatch {D : Type 0} (b : BookView D) (ops : List Op) : Type 0 where
   pub going : failed_cell b.entries ≡ None
-  pub few : length b.entries + length ops ≤ most_events
+  pub few : length b.entries + length ops ≤ most_events b.kept
   pub room : cells_in b.log + most_changes ops ≤ most_cells
 
 pub may_batch : {D : Type 0} (b : BookView D) (ops : List Op) → batch_refusal b ops ≡ None → MayBatch b ops
 may_batch b ops none =
-    let both = neither (closed_refusal b.entries) (first_of (entries_refusal (length ops) b.entries) (records_refusal (most_changes ops) (cells_in b.log))) none in
-    let rest = neither (entries_refusal (length ops) b.entries) (records_refusal (most_changes ops) (cells_in b.log)) both.1 in
+    let both = neither (closed_refusal b.entries) (first_of (entries_refusal b.kept (length ops) b.entries) (records_refusal (most_changes ops) (cells_in b.log))) none in
+    let rest = neither (entries_refusal b.kept (length ops) b.entries) (records_refusal (most_changes ops) (cells_in b.log)) both.1 in
     record {
       going = going_on b.entries both.0;
-      few = within most_events (length b.entries + length ops) HistoryFull rest.0;
+      few = within (most_events b.kept) (length b.entries + length ops) HistoryFull rest.0;
       room = within most_cells (cells_in b.log + most_changes ops) LogFull rest.1;
     }
   where

@@ -54,12 +54,12 @@ KeepsBases-append w o h es old new none splits keeps kept before after number na
         keeps number name was (places_of (world_after o.world before)) (kept before earlier.0 number name earlier.1 was)
 
 -- and each begin stays within room
-pub BeginsInRoom-append : (old new : Option ℕ) (world : World) (h es : List Entry) → NoBegin es → new ≡ old → BeginsInRoom old world h → BeginsInRoom new world (h ++ es)
-BeginsInRoom-append old new world h es none same kept before after number name there = by_place (more_or_earlier h es before after (Begin number name) there)
+pub BeginsInRoom-append : (k l : Bool) (old new : Option ℕ) (world : World) (h es : List Entry) → NoBegin es → l ≡ k → new ≡ old → BeginsInRoom k old world h → BeginsInRoom l new world (h ++ es)
+BeginsInRoom-append k l old new world h es none kind same kept before after number name there = by_place (more_or_earlier h es before after (Begin number name) there)
   where
-    by_place : ((rest : List Entry) × (es ≡ rest ++ Begin number name ∷ after)) ⊎ ((rest : List Entry) × (h ≡ before ++ Begin number name ∷ rest)) → has_no_room (count_after new world before) (length before) ≡ false
+    by_place : ((rest : List Entry) × (es ≡ rest ++ Begin number name ∷ after)) ⊎ ((rest : List Entry) × (h ≡ before ++ Begin number name ∷ rest)) → has_no_room l (count_after new world before) (length before) ≡ false
     by_place (inl among) = absurd (none among.0 after number name among.1)
-    by_place (inr earlier) = (λ i. has_no_room (count_after (same i) world before) (length before)) ∙ kept before earlier.0 number name earlier.1
+    by_place (inr earlier) = (λ i. has_no_room (kind i) (count_after (same i) world before) (length before)) ∙ kept before earlier.0 number name earlier.1
 
 -- the calls of a batch may come next, with the records of their changes
 pub calls_next : (w : ℕ) (o : State) (h : List Entry) (session row : ℕ) (ops : List Op) (cells : List Cell) → IsLegal w o h → failed_cell h ≡ None → cells ≡ cells_of (world_after o.world h) (batch_calls session row ops)
@@ -96,7 +96,7 @@ in-calls drive w o h session row (op ∷ ops) log legal going none kept =
     going_one = failed_cell-append h (call ∷ []) (has_failed-none h going)
 
 module _ {I D P : Type 0} (drive : D → Drive) (w : ℕ) (o : State) (old new : Inside I D P) (inside : IsInside drive w o old) (going : failed_cell old.history.entries ≡ None)
-    (on_log : KeepsIn drive w o new.history.entries new.journal) (since : IsSinceIn old.journal new.journal) (session row : ℕ) (ops : List Op) (few : length old.history.entries + length ops ≤ most_events) where
+    (on_log : KeepsIn drive w o new.history.entries new.journal) (since : IsSinceIn old.journal new.journal) (kind : new.history.kept ≡ old.history.kept) (session row : ℕ) (ops : List Op) (few : length old.history.entries + length ops ≤ most_events old.history.kept) where
   abbrev pub h : List Entry
   h = old.history.entries
 
@@ -122,8 +122,8 @@ module _ {I D P : Type 0} (drive : D → Drive) (w : ℕ) (o : State) (old new :
         bases = rw entries (KeepsBases-append w o h es old.table.leaves new.table.leaves (batch_calls-no_begin session row ops) (ap (λ (t : State). t.splits) after)
             (λ number name was ms kept.
             KeepsBase-bases old.splits.splits old.table.leaves new.table.leaves ms name bases (ap (λ (os : List OpenSplit). is_splitting os name) inside.splits ∙ splitting-found s.splits number name was) kept) inside.bases);
-        begins = rw entries (BeginsInRoom-append (first_in old.journal) (first_in new.journal) o.world h es (batch_calls-no_begin session row ops) (in-first old.journal new.journal since) inside.begins);
-        few = rw entries (omega (arith, length-append h es, batch_calls-length session row ops, few));
+        begins = rw entries (BeginsInRoom-append old.history.kept new.history.kept (first_in old.journal) (first_in new.journal) o.world h es (batch_calls-no_begin session row ops) kind (in-first old.journal new.journal since) inside.begins);
+        few = rw (entries, kind) (omega (arith, length-append h es, batch_calls-length session row ops, few));
         room = λ _. omega (arith, room, ap (λ v. length v.splits) splits);
         on_log = on_log;
       }
@@ -144,8 +144,8 @@ module _ {I D P : Type 0} (drive : D → Drive) (w : ℕ) (o : State) (old new :
         begun = rw entries (ap (λ v. v.begun) splits ∙ inside.begun ∙ sym (ap (λ (t : State). t.begun) after));
         bases = rw entries (KeepsBases-append w o h es old.table.leaves new.table.leaves (λ before later number name. fails-no_begin es before later number name are) (ap (λ (t : State). t.splits) after)
             (λ number name was places kept. subst (λ (t : TableView). KeepsBase t.leaves places name) (sym table) kept) inside.bases);
-        begins = rw entries (BeginsInRoom-append (first_in old.journal) (first_in new.journal) o.world h es (λ before later number name. fails-no_begin es before later number name are) (in-first old.journal new.journal since) inside.begins);
-        few = rw entries (omega (arith, length-append h es, batch_fails-length cell ms session row ops, few));
+        begins = rw entries (BeginsInRoom-append old.history.kept new.history.kept (first_in old.journal) (first_in new.journal) o.world h es (λ before later number name. fails-no_begin es before later number name are) kind (in-first old.journal new.journal since) inside.begins);
+        few = rw (entries, kind) (omega (arith, length-append h es, batch_fails-length cell ms session row ops, few));
         room = λ none. absurd (not_none (sym (failed_cell-batch_fails h cell ms session row ops sound some) ∙ ap failed_cell (sym entries) ∙ none));
         on_log = on_log;
       }

@@ -33,6 +33,7 @@ use Rattle.commit_book.specs.Room.{most_events_to_begin, most_cells_to_begin, ha
 use Rattle.commit_book.specs.declared.book.Book.TheInside.{Inside}
 use Rattle.commit_book.proofs.BookSteps.{same_names}
 use Rattle.commit_book.proofs.OnLog.{in-named, in-count, in-first}
+use Rattle.commit_book.proofs.Limits.{begin-less}
 use Rattle.commit_book.proofs.KeptLemmas.{KeepsBases-push, BeginsInRoom-push, KeepsBase-bases, KeepsBase-begun, KeepsBase-replaced, KeepsBase-split}
 use Rattle.plain_list.proofs.SplitHistories.{tidy-history, begun-number}
 use Rattle.plain_list.proofs.SplitStates.{without_name-none, splitting-found, left-open, left-apart, length-without, found-push}
@@ -66,17 +67,17 @@ is_book drive w b inside are rows = record {
 }
 
 -- there is room where there are few cells and events
-in_room : (cells events : ℕ) → cells ≤ most_cells_to_begin → events ≤ most_events_to_begin → has_no_room cells events ≡ false
-in_room cells events few short = λ i. not_less most_cells_to_begin cells few i || not_less most_events_to_begin events short i
+in_room : (kept : Bool) (cells events : ℕ) → cells ≤ most_cells_to_begin → events ≤ most_events_to_begin kept → has_no_room kept cells events ≡ false
+in_room kept cells events few short = λ i. not_less most_cells_to_begin cells few i || not_less (most_events_to_begin kept) events short i
   where
     not_less : (m n : ℕ) → n ≤ m → nat_lt m n ≡ false
     not_less m n le = grind (arith, nat_tests)
 
-one_more : (h : List Entry) (e : Entry) → length h < most_events → length (h ++ e ∷ []) ≤ most_events
-one_more h e few = omega (arith, length-append h (e ∷ []), few)
+one_more : (k l : Bool) (h : List Entry) (e : Entry) → l ≡ k → length h < most_events k → length (h ++ e ∷ []) ≤ most_events l
+one_more k l h e kind few = rw kind (omega (arith, length-append h (e ∷ []), few))
 
 module _ {I D P : Type 0} (drive : D → Drive) (w : ℕ) (o : State) (old new : Inside I D P) (inside : IsInside drive w o old)
-    (going : failed_cell old.history.entries ≡ None) (on_log : KeepsIn drive w o new.history.entries new.journal) (since : IsSinceIn old.journal new.journal) where
+    (going : failed_cell old.history.entries ≡ None) (on_log : KeepsIn drive w o new.history.entries new.journal) (since : IsSinceIn old.journal new.journal) (kind : new.history.kept ≡ old.history.kept) where
   abbrev pub h : List Entry
   h = old.history.entries
 
@@ -87,12 +88,12 @@ module _ {I D P : Type 0} (drive : D → Drive) (w : ℕ) (o : State) (old new :
   sound = has_failed-none h going
 
   -- an entry that is no begin leaves each begin where it was
-  begins-on : (e : Entry) → ((number : ℕ) (name : List Bool) → Begin number name ≡ e → ⊥) → BeginsInRoom (first_in new.journal) o.world (h ++ e ∷ [])
+  begins-on : (e : Entry) → ((number : ℕ) (name : List Bool) → Begin number name ≡ e → ⊥) → BeginsInRoom new.history.kept (first_in new.journal) o.world (h ++ e ∷ [])
   begins-on e not_begin =
-      BeginsInRoom-push (first_in old.journal) (first_in new.journal) o.world h e (in-first old.journal new.journal since) (λ number name is. absurd (not_begin number name is)) inside.begins
+      BeginsInRoom-push old.history.kept new.history.kept (first_in old.journal) (first_in new.journal) o.world h e kind (in-first old.journal new.journal since) (λ number name is. absurd (not_begin number name is)) inside.begins
 
   -- a call
-  pub inside-call : (session row : ℕ) (op : Op) → length h < most_events → new.history.entries ≡ h ++ Call session row op ∷ [] → length old.splits.splits ≤ new.history.room
+  pub inside-call : (session row : ℕ) (op : Op) → length h < most_events old.history.kept → new.history.entries ≡ h ++ Call session row op ∷ [] → length old.splits.splits ≤ new.history.room
       → new.table.world ≡ after_of old.table.world op → bases_of old.splits.splits new.table.leaves ≡ bases_of old.splits.splits old.table.leaves → new.splits ≡ old.splits → IsInside drive w o new
   inside-call session row op few entries room world bases splits =
       let e : Entry = Call session row op in
@@ -111,7 +112,7 @@ module _ {I D P : Type 0} (drive : D → Drive) (w : ℕ) (o : State) (old new :
               KeepsBase-bases old.splits.splits old.table.leaves new.table.leaves ms name bases (ap (λ (os : List OpenSplit). is_splitting os name) inside.splits ∙ splitting-found s.splits number name was) kept;
         }) inside.bases);
         begins = rw entries (begins-on e not_begin);
-        few = rw entries (one_more h e few);
+        few = rw entries (one_more old.history.kept new.history.kept h e kind few);
         room = λ _. omega (arith, room, ap (λ v. length v.splits) splits);
         on_log = on_log;
       }
@@ -120,7 +121,7 @@ module _ {I D P : Type 0} (drive : D → Drive) (w : ℕ) (o : State) (old new :
       not_begin number name is = cc is
 
   -- the begin of a split
-  pub inside-begin : (name : List Bool) (bucket : Rows) → length h ≤ most_events_to_begin → cells_in old.journal ≤ most_cells_to_begin → AreLeaves old.table.leaves → AllByRecursion (HasRowsOf (places_of (world_after o.world h))) old.table.leaves
+  pub inside-begin : (name : List Bool) (bucket : Rows) → length h ≤ most_events_to_begin old.history.kept → cells_in old.journal ≤ most_cells_to_begin → AreLeaves old.table.leaves → AllByRecursion (HasRowsOf (places_of (world_after o.world h))) old.table.leaves
       → Folds name old.table.leaves new.table.leaves bucket → may_split w s name ≡ true → is_splitting s.splits name ≡ false
       → new.history.entries ≡ h ++ Begin (old.splits.begun + 1) name ∷ [] → length old.splits.splits + 1 ≤ new.history.room → new.table.world ≡ old.table.world
       → new.splits.splits ≡ old.splits.splits ++ record { number = old.splits.begun + 1; name = name } ∷ [] → new.splits.begun ≡ old.splits.begun + 1 → IsInside drive w o new
@@ -144,14 +145,14 @@ module _ {I D P : Type 0} (drive : D → Drive) (w : ℕ) (o : State) (old new :
           keeps = λ n nm was open_now ms kept.
               subst (λ (ls : List Leaf). KeepsBase ls ms nm) (sym folds.leaves) (KeepsBase-replaced old.table.leaves ms nm name (as_base folds.leaf.bucket.rows) (other nm (splitting-found s.splits n nm was)) kept);
         }) inside.bases);
-        begins = rw entries (BeginsInRoom-push (first_in old.journal) (first_in new.journal) o.world h e (in-first old.journal new.journal since) (λ n nm is. there_was_room) inside.begins);
-        few = rw entries (one_more h e (omega (arith, few)));
+        begins = rw entries (BeginsInRoom-push old.history.kept new.history.kept (first_in old.journal) (first_in new.journal) o.world h e kind (in-first old.journal new.journal since) (λ n nm is. there_was_room) inside.begins);
+        few = rw entries (one_more old.history.kept new.history.kept h e kind (omega (arith, few, begin-less old.history.kept)));
         room = λ _. omega (arith, room, ap length splits, length-append old.splits.splits (record { number = number; name = name } ∷ []));
         on_log = on_log;
       }
     where
-      there_was_room : has_no_room (count_after (first_in old.journal) o.world h) (length h) ≡ false
-      there_was_room = ap (λ n. has_no_room n (length h)) (sym (in-count drive w o h old.journal inside.on_log)) ∙ in_room (cells_in old.journal) (length h) cells few
+      there_was_room : has_no_room old.history.kept (count_after (first_in old.journal) o.world h) (length h) ≡ false
+      there_was_room = ap (λ n. has_no_room old.history.kept n (length h)) (sym (in-count drive w o h old.journal inside.on_log)) ∙ in_room old.history.kept (cells_in old.journal) (length h) cells few
 
       same_begin : (n : ℕ) (nm : List Bool) → Begin n nm ≡ Begin (old.splits.begun + 1) name → nm ≡ name
       same_begin n nm is = cc is
@@ -172,7 +173,7 @@ module _ {I D P : Type 0} (drive : D → Drive) (w : ℕ) (o : State) (old new :
           absurd (omega (arith, at_most, last.0, inside.begun))
 
   -- the install of a split
-  pub inside-install : (number : ℕ) (name : List Bool) → length h < most_events → AreLeaves new.table.leaves → Divides w name old.table.leaves new.table.leaves
+  pub inside-install : (number : ℕ) (name : List Bool) → length h < most_events old.history.kept → AreLeaves new.table.leaves → Divides w name old.table.leaves new.table.leaves
       → split_name old.splits.splits number ≡ Some name → names_of new.table.leaves ≡ split_leaf w name (names_of old.table.leaves)
       → new.history.entries ≡ h ++ Install number ∷ [] → old.history.room - 1 ≤ new.history.room → new.table.world ≡ old.table.world
       → new.splits.splits ≡ without_number number old.splits.splits → new.splits.begun ≡ old.splits.begun → IsInside drive w o new
@@ -197,7 +198,7 @@ module _ {I D P : Type 0} (drive : D → Drive) (w : ℕ) (o : State) (old new :
               (left-apart s.splits number n name nm tidy.apart open_one (ap (λ (t : State). split_name t.splits n) (sym steps.after) ∙ now)) kept);
         }) inside.bases);
         begins = rw entries (begins-on e not_begin);
-        few = rw entries (one_more h e few);
+        few = rw entries (one_more old.history.kept new.history.kept h e kind few);
         room = λ _. omega (arith, room, inside.room going, ap length splits, ap length inside.splits, ap (λ (os : List OpenSplit). length (without_number number os)) inside.splits, length-without s.splits number name tidy.apart open_one);
         on_log = on_log;
       }
@@ -206,7 +207,7 @@ module _ {I D P : Type 0} (drive : D → Drive) (w : ℕ) (o : State) (old new :
       not_begin n nm is = cc is
 
   -- the abandonment of a split
-  pub inside-abandon : (number : ℕ) (name : List Bool) → length h < most_events → split_name old.splits.splits number ≡ Some name → new.table ≡ old.table
+  pub inside-abandon : (number : ℕ) (name : List Bool) → length h < most_events old.history.kept → split_name old.splits.splits number ≡ Some name → new.table ≡ old.table
       → new.history.entries ≡ h ++ Abandon number ∷ [] → old.history.room - 1 ≤ new.history.room
       → new.splits.splits ≡ without_number number old.splits.splits → new.splits.begun ≡ old.splits.begun → IsInside drive w o new
   inside-abandon number name few found table entries room splits begun =
@@ -227,7 +228,7 @@ module _ {I D P : Type 0} (drive : D → Drive) (w : ℕ) (o : State) (old new :
           keeps = λ n nm was now ms kept. subst (λ (v : TableView). KeepsBase v.leaves ms nm) (sym table) kept;
         }) inside.bases);
         begins = rw entries (begins-on e not_begin);
-        few = rw entries (one_more h e few);
+        few = rw entries (one_more old.history.kept new.history.kept h e kind few);
         room = λ _. omega (arith, room, inside.room going, ap length splits, ap length inside.splits, ap (λ (os : List OpenSplit). length (without_number number os)) inside.splits, length-without s.splits number name tidy.apart open_one);
         on_log = on_log;
       }
@@ -236,7 +237,7 @@ module _ {I D P : Type 0} (drive : D → Drive) (w : ℕ) (o : State) (old new :
       not_begin n nm is = cc is
 
   -- the failed append of a step
-  pub inside-fail : (cell : ℕ) (lost : Lost) → length h < most_events → new.history.entries ≡ h ++ Fail cell lost ∷ []
+  pub inside-fail : (cell : ℕ) (lost : Lost) → length h < most_events old.history.kept → new.history.entries ≡ h ++ Fail cell lost ∷ []
       → new.table.world ≡ old.table.world → new.table.leaves ≡ old.table.leaves
       → new.splits.splits ≡ old.splits.splits → new.splits.begun ≡ old.splits.begun → IsInside drive w o new
   inside-fail cell lost few entries world index splits begun =
@@ -255,7 +256,7 @@ module _ {I D P : Type 0} (drive : D → Drive) (w : ℕ) (o : State) (old new :
           keeps = λ n nm was now ms kept. subst (λ (ls : List Leaf). KeepsBase ls ms nm) (sym index) kept;
         }) inside.bases);
         begins = rw entries (begins-on e not_begin);
-        few = rw entries (one_more h e few);
+        few = rw entries (one_more old.history.kept new.history.kept h e kind few);
         room = λ none. absurd (not_none (sym (failed_cell-last h cell lost sound) ∙ ap failed_cell (sym entries) ∙ none));
         on_log = on_log;
       }

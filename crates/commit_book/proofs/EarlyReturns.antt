@@ -28,7 +28,7 @@ since-same (Some kept) = record { start = refl; first = refl }
 -- a book that stayed as it was
 pub same_books : {D : Type 0} (drive : D → Drive) (w : ℕ) (old new : BookView D) → new ≡ old → IsBook drive w old → AreBooks drive w old new
 same_books drive w old new same is =
-    subst (λ (b : BookView _). AreBooks drive w old b) (sym same) (record { before = is; after = is; origin = record { opening = refl; bucket = refl; log = since-same old.log } })
+    subst (λ (b : BookView _). AreBooks drive w old b) (sym same) (record { before = is; after = is; origin = record { opening = refl; bucket = refl; log = since-same old.log; kept = refl } })
 
 pub if_any : {B : Type 0} (r : Result B BookFault) (P : Type 0) → P → IfErr r (λ _. P)
 if_any (Ok x) P p = tt
@@ -101,35 +101,37 @@ calm-leaf false deep o = tt
 calm-leaf true true o = tt
 calm-leaf true false o = calm-splitting o
 
-calm-call : (entries : List Entry) → IsCalmIf (call_refusal entries)
-calm-call entries = calm-first (closed_refusal entries) (events_refusal entries) (calm-closed (failed_cell entries)) (calm-if (length entries == most_events) HistoryFull tt)
+calm-call : (kept : Bool) (entries : List Entry) → IsCalmIf (call_refusal kept entries)
+calm-call kept entries =
+    calm-first (closed_refusal entries) (events_refusal kept entries) (calm-closed (failed_cell entries)) (calm-if (length entries == most_events kept) HistoryFull tt)
 
-calm-end : (cells : ℕ) (entries : List Entry) → IsCalmIf (end_refusal cells entries)
-calm-end cells entries = calm-first (call_refusal entries) (cond (cells == most_cells) (Some LogFull) None) (calm-call entries) (calm-if (cells == most_cells) LogFull tt)
+calm-end : (kept : Bool) (cells : ℕ) (entries : List Entry) → IsCalmIf (end_refusal kept cells entries)
+calm-end kept cells entries =
+    calm-first (call_refusal kept entries) (cond (cells == most_cells) (Some LogFull) None) (calm-call kept entries) (calm-if (cells == most_cells) LogFull tt)
 
 pub calm-update : {D : Type 0} (b : BookView D) (op : Op) → IsCalmIf (update_refusal b op)
 calm-update b op =
     let many = (cells_in b.log == most_cells) && is_change (answer_of (world_after b.opening.world b.entries) op) in
-    calm-first (call_refusal b.entries) (cond many (Some LogFull) None) (calm-call b.entries) (calm-if many LogFull tt)
+    calm-first (call_refusal b.kept b.entries) (cond many (Some LogFull) None) (calm-call b.kept b.entries) (calm-if many LogFull tt)
 
 pub calm-begin : {D : Type 0} (w : ℕ) (b : BookView D) (name : List Bool) → IsCalmIf (begin_refusal w b name)
 calm-begin w b name =
     let s : State = state_after w b.opening b.entries in
     let cells = cells_in b.log in
     let n = length b.entries in
-    calm-first (closed_refusal b.entries) (first_of (room_refusal cells n) (leaf_refusal w s name)) (calm-closed (failed_cell b.entries))
-    (calm-first (room_refusal cells n) (leaf_refusal w s name) (calm-if (has_no_room cells n) (Room cells n) tt)
+    calm-first (closed_refusal b.entries) (first_of (room_refusal b.kept cells n) (leaf_refusal w s name)) (calm-closed (failed_cell b.entries))
+    (calm-first (room_refusal b.kept cells n) (leaf_refusal w s name) (calm-if (has_no_room b.kept cells n) (Room cells n) tt)
     (calm-leaf (is_leaf s.leaves name) (nat_lt 64 (length name + w)) (split_number s.splits name)))
 
 pub calm-install : {D : Type 0} (w : ℕ) (b : BookView D) (number : ℕ) (name : List Bool) (base : List Row) → IsCalmIf (install_refusal w b number name base)
 calm-install w b number name base =
     let it = is_open (state_after w b.opening b.entries).splits number name && has_base b.leaves name base in
-    calm-first (end_refusal (cells_in b.log) b.entries) (cond it None (Some (Stale number))) (calm-end (cells_in b.log) b.entries) (calm-unless it (Stale number) tt)
+    calm-first (end_refusal b.kept (cells_in b.log) b.entries) (cond it None (Some (Stale number))) (calm-end b.kept (cells_in b.log) b.entries) (calm-unless it (Stale number) tt)
 
 pub calm-abandon : {D : Type 0} (w : ℕ) (b : BookView D) (number : ℕ) → IsCalmIf (abandon_refusal w b number)
 calm-abandon w b number =
     let it = is_some (split_name (state_after w b.opening b.entries).splits number) in
-    calm-first (end_refusal (cells_in b.log) b.entries) (cond it None (Some (NotOpen number))) (calm-end (cells_in b.log) b.entries) (calm-unless it (NotOpen number) tt)
+    calm-first (end_refusal b.kept (cells_in b.log) b.entries) (cond it None (Some (NotOpen number))) (calm-end b.kept (cells_in b.log) b.entries) (calm-unless it (NotOpen number) tt)
 
 module _ {D : Type 0} (drive : D → Drive) (lost : Lost) (old new : BookView D) (same : new ≡ old) where
   -- a refusal by such a cause leaves the book as it was

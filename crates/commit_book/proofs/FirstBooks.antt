@@ -7,7 +7,6 @@ use Rattle.plain_list.specs.State.{State}
 use Rattle.disk_trait.specs.Drive.{Drive}
 use Rattle.kept_log.specs.Journal.{KeepsIn}
 use Rattle.commit_book.specs.BookInside.{IsInside}
-use Rattle.commit_book.specs.Events.{Events}
 use Rattle.commit_book.specs.IsBook.{IsOpening}
 use Rattle.commit_book.specs.SplitsView.{SplitsView}
 use Rattle.commit_book.specs.declared.book.Book.TheInside.{Inside}
@@ -17,11 +16,10 @@ no_begin [] after number name is = cc is
 no_begin (e ∷ before) after number name is = cc is
 
 -- a book with no entries, whose table is that of the state
-pub inside-first : {I D P : Type 0} (drive : D → Drive) (w : ℕ) (o : State) (b : Inside I D P) → IsOpening w o → b.history ≡ record { entries = []; room = 0 }
+pub inside-first : {I D P : Type 0} (drive : D → Drive) (w : ℕ) (o : State) (b : Inside I D P) → IsOpening w o → b.history.entries ≡ []
     → b.table.world ≡ o.world → names_of b.table.leaves ≡ o.leaves → b.splits ≡ record { splits = []; begun = o.begun; room = 0 } → KeepsIn drive w o [] b.journal
     → IsInside drive w o b
-inside-first drive w o b opening history world names splits kept =
-    let none : b.history.entries ≡ [] = ap (λ (v : Events). v.entries) history in
+inside-first drive w o b opening none world names splits kept =
     record {
       opening = opening;
       legal = rw none refl;

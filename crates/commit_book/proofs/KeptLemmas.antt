@@ -75,16 +75,16 @@ KeepsBases-push w o h e old new on kept before after number name same now = by_p
         on.keeps number name was now (places_of (world_after o.world before)) (kept before earlier.0 number name earlier.1 was)
 
 -- each begin was within room where each one before was, and the last entry, if it is a begin
-pub BeginsInRoom-push : (old new : Option ℕ) (world : World) (h : List Entry) (e : Entry) → new ≡ old
-    → ((number : ℕ) (name : List Bool) → Begin number name ≡ e → has_no_room (count_after old world h) (length h) ≡ false)
-    → BeginsInRoom old world h → BeginsInRoom new world (h ++ e ∷ [])
-BeginsInRoom-push old new world h e same last_one kept before after number name there = by_place (last_or_earlier h before after e (Begin number name) there)
+pub BeginsInRoom-push : (k l : Bool) (old new : Option ℕ) (world : World) (h : List Entry) (e : Entry) → l ≡ k → new ≡ old
+    → ((number : ℕ) (name : List Bool) → Begin number name ≡ e → has_no_room k (count_after old world h) (length h) ≡ false)
+    → BeginsInRoom k old world h → BeginsInRoom l new world (h ++ e ∷ [])
+BeginsInRoom-push k l old new world h e kind same last_one kept before after number name there = by_place (last_or_earlier h before after e (Begin number name) there)
   where
-    by_place : (before ≡ h) × (Begin number name ≡ e) ⊎ ((rest : List Entry) × (h ≡ before ++ Begin number name ∷ rest)) → has_no_room (count_after new world before) (length before) ≡ false
+    by_place : (before ≡ h) × (Begin number name ≡ e) ⊎ ((rest : List Entry) × (h ≡ before ++ Begin number name ∷ rest)) → has_no_room l (count_after new world before) (length before) ≡ false
     by_place (inl last) =
-        (λ i. has_no_room (count_after (same i) world (last.0 i)) (length (last.0 i))) ∙ last_one number name last.1
+        (λ i. has_no_room (kind i) (count_after (same i) world (last.0 i)) (length (last.0 i))) ∙ last_one number name last.1
     by_place (inr earlier) =
-        (λ i. has_no_room (count_after (same i) world before) (length before)) ∙ kept before earlier.0 number name earlier.1
+        (λ i. has_no_room (kind i) (count_after (same i) world before) (length before)) ∙ kept before earlier.0 number name earlier.1
 
 -- a leaf among others that have the same names and bases
 pub record SameBase (splits : List OpenSplit) (name : List Bool) (new : List Leaf) (b : LeafBase) : Type 0 where

@@ -3,6 +3,8 @@ pub mod BookSteps
 pub mod FirstBooks
 pub mod FoundStates
 pub mod KeptLemmas
+pub mod LastChanges
+pub mod Limits
 pub mod OnLog
 pub mod QuietBatches
 pub mod RefusalLemmas

@@ -103,39 +103,39 @@ going_on entries none = no_cell (failed_cell entries) none
     no_cell None e = refl
 
 -- what lets a call be made
-pub record MayCall (entries : List Entry) : Type 0 where
+pub record MayCall (kept : Bool) (entries : List Entry) : Type 0 where
   pub going : failed_cell entries ≡ None
-  pub few : length entries < most_events
+  pub few : length entries < most_events kept
 
-pub may_call : (entries : List Entry) → length entries ≤ most_events → call_refusal entries ≡ None → MayCall entries
-may_call entries most none =
-    let both = neither (closed_refusal entries) (events_refusal entries) none in
-    record { going = going_on entries both.0; few = by_test (length entries == most_events) refl both.1 }
+pub may_call : (kept : Bool) (entries : List Entry) → length entries ≤ most_events kept → call_refusal kept entries ≡ None → MayCall kept entries
+may_call kept entries most none =
+    let both = neither (closed_refusal entries) (events_refusal kept entries) none in
+    record { going = going_on entries both.0; few = by_test (length entries == most_events kept) refl both.1 }
   where
-    below : (n : ℕ) → n ≤ most_events → (n == most_events) ≡ false → n < most_events
-    below n le e = grind (arith, nat_tests)
+    below : (m n : ℕ) → n ≤ m → (n == m) ≡ false → n < m
+    below m n le e = grind (arith, nat_tests)
 
-    by_test : (b : Bool) → (length entries == most_events) ≡ b → cond b (Some HistoryFull) None ≡ None → length entries < most_events
+    by_test : (b : Bool) → (length entries == most_events kept) ≡ b → cond b (Some HistoryFull) None ≡ None → length entries < most_events kept
     by_test true is e = cc e
-    by_test false is e = below (length entries) most is
+    by_test false is e = below (most_events kept) (length entries) most is
 
 -- what lets a split begin
-pub record MayBegin (w : ℕ) (s : State) (entries : List Entry) (cells : ℕ) (name : List Bool) : Type 0 where
+pub record MayBegin (kept : Bool) (w : ℕ) (s : State) (entries : List Entry) (cells : ℕ) (name : List Bool) : Type 0 where
   pub going : failed_cell entries ≡ None
-  pub few : length entries ≤ most_events_to_begin
+  pub few : length entries ≤ most_events_to_begin kept
   pub room : cells ≤ most_cells_to_begin
   pub leaf : is_leaf s.leaves name ≡ true
   pub short : length name + w ≤ 64
   pub free : is_splitting s.splits name ≡ false
 
-pub may_begin : {D : Type 0} (w : ℕ) (b : BookView D) (name : List Bool) → begin_refusal w b name ≡ None → MayBegin w (state_after w b.opening b.entries) b.entries (cells_in b.log) name
+pub may_begin : {D : Type 0} (w : ℕ) (b : BookView D) (name : List Bool) → begin_refusal w b name ≡ None → MayBegin b.kept w (state_after w b.opening b.entries) b.entries (cells_in b.log) name
 may_begin w b name none =
     let s = state_after w b.opening b.entries in
     let cells = cells_in b.log in
     let n = length b.entries in
-    let first = neither (closed_refusal b.entries) (first_of (room_refusal cells n) (leaf_refusal w s name)) none in
-    let later = neither (room_refusal cells n) (leaf_refusal w s name) first.1 in
-    by_room s n cells (going_on b.entries first.0) (nat_lt most_cells_to_begin cells) (nat_lt most_events_to_begin n) (is_leaf s.leaves name) (nat_lt 64 (length name + w)) refl refl refl refl later.0 later.1
+    let first = neither (closed_refusal b.entries) (first_of (room_refusal b.kept cells n) (leaf_refusal w s name)) none in
+    let later = neither (room_refusal b.kept cells n) (leaf_refusal w s name) first.1 in
+    by_room s n cells (going_on b.entries first.0) (nat_lt most_cells_to_begin cells) (nat_lt (most_events_to_begin b.kept) n) (is_leaf s.leaves name) (nat_lt 64 (length name + w)) refl refl refl refl later.0 later.1
   where
     not_lt : (m n : ℕ) → nat_lt m n ≡ false → n ≤ m
     not_lt m n e = grind (arith, nat_tests)
@@ -144,17 +144,17 @@ may_begin w b name none =
     no_split (Some n) e = cc e
     no_split None e = refl
 
-    by_room : (s : State) (n cells : ℕ) → failed_cell b.entries ≡ None → (much many leaf deep : Bool) → nat_lt most_cells_to_begin cells ≡ much → nat_lt most_events_to_begin (length b.entries) ≡ many
+    by_room : (s : State) (n cells : ℕ) → failed_cell b.entries ≡ None → (much many leaf deep : Bool) → nat_lt most_cells_to_begin cells ≡ much → nat_lt (most_events_to_begin b.kept) (length b.entries) ≡ many
         → is_leaf s.leaves name ≡ leaf → nat_lt 64 (length name + w) ≡ deep
         → cond (much || many) (Some (Room cells n)) None ≡ None
-        → cond (not leaf) (Some NoLeaf) (cond deep (Some Deep) (option_map Splitting (split_number s.splits name))) ≡ None → MayBegin w s b.entries cells name
+        → cond (not leaf) (Some NoLeaf) (cond deep (Some Deep) (option_map Splitting (split_number s.splits name))) ≡ None → MayBegin b.kept w s b.entries cells name
     by_room s n cells going true many leaf deep m r l d room e = cc room
     by_room s n cells going false true leaf deep m r l d room e = cc room
     by_room s n cells going false false false deep m r l d room e = cc e
     by_room s n cells going false false true true m r l d room e = cc e
     by_room s n cells going false false true false m r l d room e = record {
       going = going;
-      few = not_lt most_events_to_begin (length b.entries) r;
+      few = not_lt (most_events_to_begin b.kept) (length b.entries) r;
       room = not_lt most_cells_to_begin cells m;
       leaf = l;
       short = not_lt 64 (length name + w) d;
@@ -162,15 +162,15 @@ may_begin w b name none =
     }
 
 -- what lets a split end
-pub record MayEnd (entries : List Entry) (cells : ℕ) : Type 0 where
+pub record MayEnd (kept : Bool) (entries : List Entry) (cells : ℕ) : Type 0 where
   pub going : failed_cell entries ≡ None
-  pub few : length entries < most_events
+  pub few : length entries < most_events kept
   pub room : (cells == most_cells) ≡ false
 
-pub may_end : (entries : List Entry) (cells : ℕ) → length entries ≤ most_events → end_refusal cells entries ≡ None → MayEnd entries cells
-may_end entries cells most none =
-    let both = neither (call_refusal entries) (cond (cells == most_cells) (Some LogFull) None) none in
-    let call = may_call entries most both.0 in
+pub may_end : (kept : Bool) (entries : List Entry) (cells : ℕ) → length entries ≤ most_events kept → end_refusal kept cells entries ≡ None → MayEnd kept entries cells
+may_end kept entries cells most none =
+    let both = neither (call_refusal kept entries) (cond (cells == most_cells) (Some LogFull) None) none in
+    let call = may_call kept entries most both.0 in
     record { going = call.going; few = call.few; room = by_test (cells == most_cells) both.1 }
   where
     by_test : (b : Bool) → cond b (Some LogFull) None ≡ None → b ≡ false
@@ -179,18 +179,18 @@ may_end entries cells most none =
 
 -- what lets a split be installed
 pub record MayInstall {D : Type 0} (w : ℕ) (b : BookView D) (number : ℕ) (name : List Bool) (base : List Row) : Type 0 where
-  pub may : MayEnd b.entries (cells_in b.log)
+  pub may : MayEnd b.kept b.entries (cells_in b.log)
   pub is_open_one : is_open (state_after w b.opening b.entries).splits number name ≡ true
   pub has : has_base b.leaves name base ≡ true
 
-pub may_install : {D : Type 0} (w : ℕ) (b : BookView D) (number : ℕ) (name : List Bool) (base : List Row) → length b.entries ≤ most_events
+pub may_install : {D : Type 0} (w : ℕ) (b : BookView D) (number : ℕ) (name : List Bool) (base : List Row) → length b.entries ≤ most_events b.kept
     → install_refusal w b number name base ≡ None → MayInstall w b number name base
 may_install w b number name base most none =
     let it = is_open (state_after w b.opening b.entries).splits number name && has_base b.leaves name base in
-    let both = neither (end_refusal (cells_in b.log) b.entries) (cond it None (Some (Stale number))) none in
-    by_tests (may_end b.entries (cells_in b.log) most both.0) (is_open (state_after w b.opening b.entries).splits number name) (has_base b.leaves name base) refl refl both.1
+    let both = neither (end_refusal b.kept (cells_in b.log) b.entries) (cond it None (Some (Stale number))) none in
+    by_tests (may_end b.kept b.entries (cells_in b.log) most both.0) (is_open (state_after w b.opening b.entries).splits number name) (has_base b.leaves name base) refl refl both.1
   where
-    by_tests : MayEnd b.entries (cells_in b.log) → (it has : Bool) → is_open (state_after w b.opening b.entries).splits number name ≡ it → has_base b.leaves name base ≡ has
+    by_tests : MayEnd b.kept b.entries (cells_in b.log) → (it has : Bool) → is_open (state_after w b.opening b.entries).splits number name ≡ it → has_base b.leaves name base ≡ has
         → cond (it && has) None (Some (Stale number)) ≡ None → MayInstall w b number name base
     by_tests may false has o b e = cc e
     by_tests may true false o b e = cc e
@@ -198,14 +198,14 @@ may_install w b number name base most none =
 
 -- what lets a split be abandoned
 pub record MayAbandon {D : Type 0} (w : ℕ) (b : BookView D) (number : ℕ) : Type 0 where
-  pub may : MayEnd b.entries (cells_in b.log)
+  pub may : MayEnd b.kept b.entries (cells_in b.log)
   pub is_open_one : is_some (split_name (state_after w b.opening b.entries).splits number) ≡ true
 
-pub may_abandon : {D : Type 0} (w : ℕ) (b : BookView D) (number : ℕ) → length b.entries ≤ most_events → abandon_refusal w b number ≡ None → MayAbandon w b number
+pub may_abandon : {D : Type 0} (w : ℕ) (b : BookView D) (number : ℕ) → length b.entries ≤ most_events b.kept → abandon_refusal w b number ≡ None → MayAbandon w b number
 may_abandon w b number most none =
     let it = is_some (split_name (state_after w b.opening b.entries).splits number) in
-    let both = neither (end_refusal (cells_in b.log) b.entries) (cond it None (Some (NotOpen number))) none in
-    record { may = may_end b.entries (cells_in b.log) most both.0; is_open_one = by_test it both.1 }
+    let both = neither (end_refusal b.kept (cells_in b.log) b.entries) (cond it None (Some (NotOpen number))) none in
+    record { may = may_end b.kept b.entries (cells_in b.log) most both.0; is_open_one = by_test it both.1 }
   where
     by_test : (b : Bool) → cond b None (Some (NotOpen number)) ≡ None → b ≡ true
     by_test true e = refl

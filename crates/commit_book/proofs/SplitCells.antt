@@ -45,8 +45,8 @@ module _ (w : ℕ) (o : State) (h : List Entry) (legal : IsLegal w o h) (going :
       some_cells false cells e = absurd (true≢false (sym e))
 
   -- a split that may begin
-  pub begin_step : (cells number : ℕ) (name : List Bool) → MayBegin w (state_after w o h) h cells name → number ≡ (state_after w o h).begun + 1 → IsStep w o h (lost.Begin number name)
-  begin_step cells number name may next =
+  pub begin_step : (kept : Bool) (cells number : ℕ) (name : List Bool) → MayBegin kept w (state_after w o h) h cells name → number ≡ (state_after w o h).begun + 1 → IsStep w o h (lost.Begin number name)
+  begin_step kept cells number name may next =
       step_next (lost.Begin number name)
       (both_true (both_true (eq-eqb number ((state_after w o h).begun + 1) next) (both_true may.leaf (le-leb (length name + w) 64 may.short))) (ap not may.free)) refl
 

@@ -23,7 +23,7 @@ use Rattle.kept_log.proofs.InJournal.{in-call, leaves-quiet}
 use Rattle.point_table.specs.TableView.{TableView}
 use Rattle.point_table.specs.Updates.{TellsIf}
 use Rattle.commit_book.specs.BookInside.{IsInside, book_of}
-use Rattle.commit_book.specs.Events.{Events}
+use Rattle.commit_book.specs.Events.{Events, with_entry}
 use Rattle.commit_book.specs.IsBook.{most_events}
 use Rattle.commit_book.specs.Refusals.{WouldChange, LeavesRefused, IsRefusedBy, IsMemoryOrDisk, most_cells}
 use Rattle.commit_book.specs.declared.faults.BookFault.{BookFault}
@@ -33,12 +33,13 @@ use Rattle.commit_book.specs.declared.book.Book.TheInside.{Inside}
 use Rattle.commit_book.specs.declared.steps.Step.{Step}
 use Rattle.commit_book.proofs.BookStates.{inside-fail}
 use Rattle.commit_book.proofs.EarlyReturns.{since-same}
+use Rattle.commit_book.proofs.Limits.{most-le}
 use Rattle.commit_book.proofs.OnLog.{in-most, in-failed}
 use Rattle.commit_book.proofs.UpdateCalls.{fewer_cells}
 
 -- a book that took memory, or had none, with room for an entry of each open split
 pub inside-reserved : {I D P : Type 0} (drive : D → Drive) (w : ℕ) (o : State) (b : Inside I D P) (splits : SplitsView) (history : Events) (n : ℕ) → IsInside drive w o b
-    → splits.splits ≡ b.splits.splits → splits.begun ≡ b.splits.begun → history ≡ record { entries = b.history.entries; room = n } → (failed_cell b.history.entries ≡ None → length b.splits.splits ≤ n)
+    → splits.splits ≡ b.splits.splits → splits.begun ≡ b.splits.begun → history ≡ record b.history { room = n } → (failed_cell b.history.entries ≡ None → length b.splits.splits ≤ n)
     → IsInside {I = I} {P = P} drive w o (record { table = b.table; splits = splits; history = history; journal = b.journal; opening = b.opening })
 inside-reserved {I = I} {P = P} drive w o b splits history n inside opens begun same enough =
     subst (λ (v : Events). IsInside {I = I} {P = P} drive w o (record { table = b.table; splits = splits; history = v; journal = b.journal; opening = b.opening })) (sym same) (record {
@@ -64,7 +65,7 @@ can_step drive w o b events step cell has inside going room same promised = reco
   going = in-failed drive w o b.history.entries b.journal inside.on_log going;
   room = fewer_cells (cells_in b.journal) (in-most drive w o b.history.entries b.journal inside.on_log) room;
   promised = promised;
-  few = omega (arith, ap length same, inside.few);
+  few = omega (arith, ap length same, inside.few, most-le b.history.kept);
 }
 
 module _ {I D P : Type 0} (drive : D → Drive) (w : ℕ) (o : State) (old : Inside I D P) (inside : IsInside drive w o old) (going : failed_cell old.history.entries ≡ None) where
@@ -72,20 +73,22 @@ module _ {I D P : Type 0} (drive : D → Drive) (w : ℕ) (o : State) (old : Ins
   h = old.history.entries
 
   -- a book whose step was lost, or wasn't taken
-  pub inside-undone : (A : Type 0) (table : TableView) (splits : SplitsView) (opening : State) (n : ℕ) (why : Undone) (a b : Step D) → length h < most_events → IsStep w o h a.lost
-      → a.history.now ≡ record { entries = h; room = n } → a.journal.now ≡ old.journal → length old.splits.splits ≤ n
+  pub inside-undone : (A : Type 0) (table : TableView) (splits : SplitsView) (opening : State) (n : ℕ) (why : Undone) (a b : Step D) → length h < most_events old.history.kept → IsStep w o h a.lost
+      → a.history.now ≡ record { entries = h; room = n; kept = old.history.kept } → a.journal.now ≡ old.journal → length old.splits.splits ≤ n
       → table ≡ old.table → splits.splits ≡ old.splits.splits → splits.begun ≡ old.splits.begun
       → Told {A = A} (Takes drive) (Loses drive) a b (Err why) → IsInside {I = I} {P = P} drive w o (record { table = table; splits = splits; history = b.history.now; journal = b.journal.now; opening = opening })
   inside-undone A table splits opening n undone.Lost a b few step events log room same opens begun told =
-      let ends : EndsStep drive a.lost (Fail (cells_in a.journal.now) a.lost) (record { entries = h; room = n }) b.history.now a.journal.now b.journal.now =
+      let ends : EndsStep drive a.lost (Fail (cells_in a.journal.now) a.lost) (record { entries = h; room = n; kept = old.history.kept }) b.history.now a.journal.now b.journal.now =
       subst (λ (v : Events). EndsStep drive a.lost (Fail (cells_in a.journal.now) a.lost) v b.history.now a.journal.now b.journal.now) events told.ends in
       let entries : b.history.now.entries ≡ h ++ Fail (cells_in a.journal.now) a.lost ∷ [] = ap (λ (v : Events). v.entries) ends.events in
       let kept = ends.keeps w o step (subst (λ (l : Option (KeptView D)). KeepsIn drive w o h l) (sym log) inside.on_log) in
-      inside-fail drive w o old _ inside going (subst (λ (g : List Entry). KeepsIn drive w o g b.journal.now) (sym entries) kept) (subst (λ (l : Option (KeptView D)). IsSinceIn l b.journal.now) log ends.since) (cells_in a.journal.now) a.lost few entries
+      inside-fail drive w o old _ inside going (subst (λ (g : List Entry). KeepsIn drive w o g b.journal.now) (sym entries) kept) (subst (λ (l : Option (KeptView D)). IsSinceIn l b.journal.now) log ends.since)
+      (ap (λ (v : Events). v.kept) ends.events) (cells_in a.journal.now) a.lost few entries
       (ap (λ (t : TableView). t.world) same) (ap (λ (t : TableView). t.leaves) same) opens begun
   inside-undone A table splits opening n undone.Memory a b few step events log room same opens begun told =
       let entries : b.history.now.entries ≡ h = ap (λ (s : Step D). s.history.now.entries) told ∙ ap (λ (v : Events). v.entries) events in
       let rooms : b.history.now.room ≡ n = ap (λ (s : Step D). s.history.now.room) told ∙ ap (λ (v : Events). v.room) events in
+      let kind : b.history.now.kept ≡ old.history.kept = ap (λ (s : Step D). s.history.now.kept) told ∙ ap (λ (v : Events). v.kept) events in
       let journal : b.journal.now ≡ old.journal = ap (λ (s : Step D). s.journal.now) told ∙ log in
       record {
         opening = inside.opening;
@@ -95,17 +98,17 @@ module _ {I D P : Type 0} (drive : D → Drive) (w : ℕ) (o : State) (old : Ins
         splits = rw entries (opens ∙ inside.splits);
         begun = rw entries (begun ∙ inside.begun);
         bases = rw (entries, same) inside.bases;
-        begins = rw (entries, journal) inside.begins;
-        few = rw entries inside.few;
+        begins = rw (entries, journal, kind) inside.begins;
+        few = rw (entries, kind) inside.few;
         room = λ _. omega (arith, ap length opens, room, rooms);
         on_log = rw (entries, journal) inside.on_log;
       }
 
   -- at every moment of it a crash leaves the cells that stood there, or these and the step's own
-  pub moments-undone : (A : Type 0) → ((d : D) → KeepsLaws (drive d)) → (n : ℕ) (why : Undone) (a b : Step D) → IsStep w o h a.lost → a.history.now ≡ record { entries = h; room = n } → a.journal.now ≡ old.journal
+  pub moments-undone : (A : Type 0) → ((d : D) → KeepsLaws (drive d)) → (n : ℕ) (why : Undone) (a b : Step D) → IsStep w o h a.lost → a.history.now ≡ record { entries = h; room = n; kept = old.history.kept } → a.journal.now ≡ old.journal
       → Told {A = A} (Takes drive) (Loses drive) a b (Err why) → LeavesEither drive w o h (entry_of a.lost) old.journal b.journal.now
   moments-undone A laws n undone.Lost a b step events log told =
-      let ends : EndsStep drive a.lost (Fail (cells_in a.journal.now) a.lost) (record { entries = h; room = n }) b.history.now a.journal.now b.journal.now =
+      let ends : EndsStep drive a.lost (Fail (cells_in a.journal.now) a.lost) (record { entries = h; room = n; kept = old.history.kept }) b.history.now a.journal.now b.journal.now =
       subst (λ (v : Events). EndsStep drive a.lost (Fail (cells_in a.journal.now) a.lost) v b.history.now a.journal.now b.journal.now) events told.ends in
       subst (λ (l : Option (KeptView D)). LeavesEither drive w o h (entry_of a.lost) l b.journal.now) log
       (ends.any_moment w o step (subst (λ (l : Option (KeptView D)). KeepsIn drive w o h l) (sym log) inside.on_log))
@@ -114,9 +117,9 @@ module _ {I D P : Type 0} (drive : D → Drive) (w : ℕ) (o : State) (old : Ins
       (leaves-quiet drive w o h (entry_of a.lost) old.journal laws inside.on_log going)
 
   -- where the drive failed the book is closed, and else it is as it was
-  pub refused-undone : (A : Type 0) (table : TableView) (n cell : ℕ) (why : Undone) (a b : Step D) → a.history.now ≡ record { entries = h; room = n } → a.journal.now ≡ old.journal → table ≡ old.table
+  pub refused-undone : (A : Type 0) (table : TableView) (n cell : ℕ) (why : Undone) (a b : Step D) → a.history.now ≡ record { entries = h; room = n; kept = old.history.kept } → a.journal.now ≡ old.journal → table ≡ old.table
       → WouldChange (book_of old) a.lost → cell ≡ cells_in b.journal.now → Told {A = A} (Takes drive) (Loses drive) a b (Err why)
-      → LeavesRefused drive a.lost (book_of old) (record { leaves = table.leaves; opening = old.opening; entries = b.history.now.entries; bucket = table.size; log = b.journal.now }) (fault_of why cell)
+      → LeavesRefused drive a.lost (book_of old) (record { leaves = table.leaves; opening = old.opening; entries = b.history.now.entries; bucket = table.size; log = b.journal.now; kept = b.history.now.kept }) (fault_of why cell)
   refused-undone A table n cell undone.Lost a b events log same change cell_is told =
       let at : cell ≡ cells_in a.journal.now = cell_is ∙ told.count in
       record {
@@ -130,26 +133,29 @@ module _ {I D P : Type 0} (drive : D → Drive) (w : ℕ) (o : State) (old : Ins
       }
   refused-undone A table n cell undone.Memory a b events log same change cell_is told =
       let entries : b.history.now.entries ≡ h = ap (λ (s : Step D). s.history.now.entries) told ∙ ap (λ (v : Events). v.entries) events in
+      let kind : b.history.now.kept ≡ old.history.kept = ap (λ (s : Step D). s.history.now.kept) told ∙ ap (λ (v : Events). v.kept) events in
       let journal : b.journal.now ≡ old.journal = ap (λ (s : Step D). s.journal.now) told ∙ log in
-      λ i. record { leaves = (same i).leaves; opening = old.opening; entries = entries i; bucket = (same i).size; log = journal i }
+      λ i. record { leaves = (same i).leaves; opening = old.opening; entries = entries i; bucket = (same i).size; log = journal i; kept = kind i }
 
   -- a step that was taken
   pub record Taken (step : Lost) (n : ℕ) (events : Events) (log : Option (KeptView D)) : Type 0 where
     pub entries : events.entries ≡ h ++ entry_of step ∷ []
     pub room : events.room ≡ n - 1
+    pub kept : events.kept ≡ old.history.kept
     pub keeps : KeepsIn drive w o events.entries log
     pub since : IsSinceIn old.journal log
     pub moments : LeavesEither drive w o h (entry_of step) old.journal log
 
-  pub taken : (n : ℕ) (a b : Step D) → IsStep w o h a.lost → a.history.now ≡ record { entries = h; room = n } → a.journal.now ≡ old.journal → Takes drive a b → Taken a.lost n b.history.now b.journal.now
+  pub taken : (n : ℕ) (a b : Step D) → IsStep w o h a.lost → a.history.now ≡ record { entries = h; room = n; kept = old.history.kept } → a.journal.now ≡ old.journal → Takes drive a b → Taken a.lost n b.history.now b.journal.now
   taken n a b step events log told =
-      let ends : EndsStep drive a.lost (entry_of a.lost) (record { entries = h; room = n }) b.history.now a.journal.now b.journal.now =
+      let ends : EndsStep drive a.lost (entry_of a.lost) (record { entries = h; room = n; kept = old.history.kept }) b.history.now a.journal.now b.journal.now =
       subst (λ (v : Events). EndsStep drive a.lost (entry_of a.lost) v b.history.now a.journal.now b.journal.now) events told.ends in
       let entries : b.history.now.entries ≡ h ++ entry_of a.lost ∷ [] = ap (λ (v : Events). v.entries) ends.events in
       let kept = subst (λ (l : Option (KeptView D)). KeepsIn drive w o h l) (sym log) inside.on_log in
       record {
         entries = entries;
         room = ap (λ (v : Events). v.room) ends.events;
+        kept = ap (λ (v : Events). v.kept) ends.events;
         keeps = subst (λ (g : List Entry). KeepsIn drive w o g b.journal.now) (sym entries) (ends.keeps w o step kept);
         since = subst (λ (l : Option (KeptView D)). IsSinceIn l b.journal.now) log ends.since;
         moments = subst (λ (l : Option (KeptView D)). LeavesEither drive w o h (entry_of a.lost) l b.journal.now) log (ends.any_moment w o step kept);
@@ -158,23 +164,23 @@ module _ {I D P : Type 0} (drive : D → Drive) (w : ℕ) (o : State) (old : Ins
   -- a call that was noted, with its cell or without one
   pub noted : ((d : D) → KeepsLaws (drive d)) → (session row : ℕ) (op : Op) (n : ℕ) (change : Bool) (answer : Answer) (a b : Step D) (events : Events)
       → (is_change (answer_of (world_after o.world h) op) ≡ true → IsStep w o h a.lost) → IsLegal w o (h ++ Call session row op ∷ []) → a.lost ≡ lost.Call session row op
-      → a.history.now ≡ record { entries = h; room = n } → a.journal.now ≡ old.journal → is_change (answer_of (world_after o.world h) op) ≡ change → is_change answer ≡ change
+      → a.history.now ≡ record { entries = h; room = n; kept = old.history.kept } → a.journal.now ≡ old.journal → is_change (answer_of (world_after o.world h) op) ≡ change → is_change answer ≡ change
       → TellsIf (Takes drive) (Loses drive) change a b (Ok answer) → (is_change answer ≡ true → events ≡ b.history.now)
-      → (is_change answer ≡ false → events ≡ record { entries = b.history.now.entries ++ Call session row op ∷ []; room = b.history.now.room - 1 })
+      → (is_change answer ≡ false → events ≡ with_entry (Call session row op) b.history.now)
       → Taken (lost.Call session row op) n events b.journal.now
   noted laws session row op n true answer a b events step legal is_call before log now same told kept quiet =
       let it = taken n a b (step now) before log told in
       let last : Taken (lost.Call session row op) n b.history.now b.journal.now = subst (λ (l : Lost). Taken l n b.history.now b.journal.now) is_call it in
       subst (λ (v : Events). Taken (lost.Call session row op) n v b.journal.now) (sym (kept same)) last
   noted laws session row op n false answer a b events step legal is_call before log now same told kept quiet =
-      let pushed : events ≡ record { entries = h ++ Call session row op ∷ []; room = n - 1 } =
-      quiet same ∙ ap (λ (s : Step D). record { entries = s.history.now.entries ++ Call session row op ∷ []; room = s.history.now.room - 1 }) told
-      ∙ ap (λ (v : Events). record { entries = v.entries ++ Call session row op ∷ []; room = v.room - 1 }) before in
+      let pushed : events ≡ record { entries = h ++ Call session row op ∷ []; room = n - 1; kept = old.history.kept } =
+      quiet same ∙ ap (λ (s : Step D). with_entry (Call session row op) s.history.now) told ∙ ap (with_entry (Call session row op)) before in
       let journal : b.journal.now ≡ old.journal = ap (λ (s : Step D). s.journal.now) told ∙ log in
       let entries : events.entries ≡ h ++ Call session row op ∷ [] = ap (λ (v : Events). v.entries) pushed in
       record {
         entries = entries;
         room = ap (λ (v : Events). v.room) pushed;
+        kept = ap (λ (v : Events). v.kept) pushed;
         keeps = rw (entries, journal) (in-call drive w o h session row op old.journal legal now inside.on_log);
         since = subst (λ (l : Option (KeptView D)). IsSinceIn old.journal l) (sym journal) (since-same old.journal);
         moments = rw journal (leaves-quiet drive w o h (Call session row op) old.journal laws inside.on_log going);
@@ -209,3 +215,18 @@ pub since-told : {D A : Type 0} (drive : D → Drive) (change : Bool) (log : Opt
 since-told drive true log answer a b before told = subst (λ (l : Option (KeptView _)). IsSinceIn l b.journal.now) before told.ends.since
 since-told drive false log answer a b before told =
     subst (λ (l : Option (KeptView _)). IsSinceIn log l) (sym (ap (λ (s : Step _). s.journal.now) told ∙ before)) (since-same log)
+
+-- and the kind of the history
+pub kind-undone : {D : Type 0} (drive : D → Drive) (A : Type 0) (events : Events) (why : Undone) (a b : Step D) → a.history.now ≡ events → Told {A = A} (Takes drive) (Loses drive) a b (Err why)
+    → b.history.now.kept ≡ events.kept
+kind-undone drive A events undone.Lost a b before told = ap (λ (v : Events). v.kept) told.ends.events ∙ ap (λ (v : Events). v.kept) before
+kind-undone drive A events undone.Memory a b before told = ap (λ (s : Step _). s.history.now.kept) told ∙ ap (λ (v : Events). v.kept) before
+
+pub kind-told : {D A : Type 0} (drive : D → Drive) (change : Bool) (events : Events) (answer : A) (a b : Step D) → a.history.now ≡ events → TellsIf (Takes drive) (Loses drive) change a b (Ok answer)
+    → b.history.now.kept ≡ events.kept
+kind-told drive true events answer a b before told = ap (λ (v : Events). v.kept) told.ends.events ∙ ap (λ (v : Events). v.kept) before
+kind-told drive false events answer a b before told = ap (λ (s : Step _). s.history.now.kept) told ∙ ap (λ (v : Events). v.kept) before
+
+pub kind-quiet : (change : Bool) (e : Entry) (old new : Events) → (change ≡ true → new ≡ old) → (change ≡ false → new ≡ with_entry e old) → new.kept ≡ old.kept
+kind-quiet true e old new noted quiet = ap (λ (v : Events). v.kept) (noted refl)
+kind-quiet false e old new noted quiet = ap (λ (v : Events). v.kept) (quiet refl)

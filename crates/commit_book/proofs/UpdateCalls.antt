@@ -32,23 +32,23 @@ module _ {D : Type 0} (b : BookView D) (op : Op) where
   abbrev pub lacks_cell : Option BookFault
   lacks_cell = cond ((cells_in b.log == most_cells) && changes) (Some LogFull) None
 
-  pub told_full : call_refusal b.entries ≡ None → (cells_in b.log == most_cells) ≡ true → changes ≡ true → IsRefusedBy {A = Unit {0}} IsNoFault (update_refusal b op) (Err LogFull)
+  pub told_full : call_refusal b.kept b.entries ≡ None → (cells_in b.log == most_cells) ≡ true → changes ≡ true → IsRefusedBy {A = Unit {0}} IsNoFault (update_refusal b op) (Err LogFull)
   told_full none full change =
-      refused_later (call_refusal b.entries) lacks_cell (Err LogFull) none (told_only (Unit {0}) lacks_cell LogFull (λ i. cond (full i && change i) (Some LogFull) None))
+      refused_later (call_refusal b.kept b.entries) lacks_cell (Err LogFull) none (told_only (Unit {0}) lacks_cell LogFull (λ i. cond (full i && change i) (Some LogFull) None))
 
-  pub has_cell : call_refusal b.entries ≡ None → ((cells_in b.log == most_cells) && changes) ≡ false → IsRefusedBy {A = Unit {0}} IsNoFault (update_refusal b op) (Ok tt)
+  pub has_cell : call_refusal b.kept b.entries ≡ None → ((cells_in b.log == most_cells) && changes) ≡ false → IsRefusedBy {A = Unit {0}} IsNoFault (update_refusal b op) (Ok tt)
   has_cell none enough =
-      refused_later (call_refusal b.entries) lacks_cell (Ok tt) none (done_only lacks_cell tt (λ i. cond (enough i) (Some LogFull) None))
+      refused_later (call_refusal b.kept b.entries) lacks_cell (Ok tt) none (done_only lacks_cell tt (λ i. cond (enough i) (Some LogFull) None))
 
   -- what lets a change or a find be made
   pub record MayUpdate : Type 0 where
-    pub call : MayCall b.entries
+    pub call : MayCall b.kept b.entries
     pub room : changes ≡ true → (cells_in b.log == most_cells) ≡ false
 
-  pub may_update : length b.entries ≤ most_events → update_refusal b op ≡ None → MayUpdate
+  pub may_update : length b.entries ≤ most_events b.kept → update_refusal b op ≡ None → MayUpdate
   may_update most none =
-      let both = neither (call_refusal b.entries) lacks_cell none in
-      record { call = may_call b.entries most both.0; room = by_tests (cells_in b.log == most_cells) changes both.1 }
+      let both = neither (call_refusal b.kept b.entries) lacks_cell none in
+      record { call = may_call b.kept b.entries most both.0; room = by_tests (cells_in b.log == most_cells) changes both.1 }
     where
       by_tests : (full change : Bool) → cond (full && change) (Some LogFull) None ≡ None → change ≡ true → full ≡ false
       by_tests true true e is = cc e

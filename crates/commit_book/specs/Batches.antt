@@ -35,8 +35,8 @@ abbrev pub most_changes : List Op → ℕ
 most_changes ops = count_by (λ (op : Op). not (is_ask op)) ops
 
 -- the history has no room for this many more entries
-abbrev pub entries_refusal : ℕ → List Entry → Option BookFault
-entries_refusal more entries = if nat_lt most_events (length entries + more) then Some HistoryFull else None
+abbrev pub entries_refusal : Bool → ℕ → List Entry → Option BookFault
+entries_refusal kept more entries = if nat_lt (most_events kept) (length entries + more) then Some HistoryFull else None
 
 -- the log has no room for this many more records
 abbrev pub records_refusal : ℕ → ℕ → Option BookFault
@@ -45,7 +45,7 @@ records_refusal more cells = if nat_lt most_cells (cells + more) then Some LogFu
 -- why a batch is refused; an empty one is refused by a closed book alone
 abbrev pub batch_refusal : {D : Type 0} → BookView D → List Op → Option BookFault
 batch_refusal b ops =
-    first_of (closed_refusal b.entries) (first_of (entries_refusal (length ops) b.entries) (records_refusal (most_changes ops) (cells_in b.log)))
+    first_of (closed_refusal b.entries) (first_of (entries_refusal b.kept (length ops) b.entries) (records_refusal (most_changes ops) (cells_in b.log)))
 
 -- The append of the batch's records failed, and `cell` is the number of the first one. The history ends with a failed
 -- append for each operation that would have changed the world. There is one at least. The book is closed.

@@ -1,5 +1,5 @@
 -- What contracts see of a book.
-use Rattle.std.specs.Prelude.{ℕ, ◌+◌, List, Option, None}
+use Rattle.std.specs.Prelude.{ℕ, ◌+◌, Bool, true, false, List, [], Option, None}
 use Rattle.index_layer.specs.Leaves.{Leaf}
 use Rattle.index_layer.specs.Stands.{Stands}
 use Rattle.plain_list.specs.declared.entries.Entry.{Entry}
@@ -10,12 +10,14 @@ use Rattle.split_log.specs.LogView.{LogView}
 use Rattle.kept_log.specs.KeptView.{KeptView}
 
 -- The leaves of the index, the state at which the book began, the history since, the bucket size in rows, and the log.
+-- `kept` is whether the book keeps the list of its entries. If it doesn't, `entries` is the history for contracts alone.
 pub record BookView (D : Type 0) : Type 0 where
   pub leaves : List Leaf
   pub opening : State
   pub entries : List Entry
   pub bucket : ℕ
   pub log : Option (KeptView D)
+  pub kept : Bool
 
 -- the number of the next split
 abbrev pub next_number : {D : Type 0} → ℕ → BookView D → ℕ
@@ -28,3 +30,8 @@ StandsAfter w b leaves = Stands leaves (places_of (world_after b.opening.world b
 -- a log as it was opened on this drive, with no record more
 abbrev pub first_log : {D : Type 0} → LogView D → D → KeptView D
 first_log log start = record { disk = log.disk; cells = log.cells; failed = None; start = start; first = log.cells }
+
+-- the list that is left of a history: the whole history if the list is kept, and else no entry
+abbrev pub list_in : Bool → List Entry → List Entry
+list_in true entries = entries
+list_in false entries = []

@@ -1,5 +1,5 @@
 -- The invariant of each book.
-use Rattle.std.specs.Prelude.{◌≡◌, ℕ, ◌≤◌, [], length, Some}
+use Rattle.std.specs.Prelude.{◌≡◌, ℕ, ◌≤◌, Bool, true, false, [], length, Some}
 use Rattle.plain_list.specs.World.{places_of}
 use Rattle.plain_list.specs.State.{State, ComesBySplits, IsLegal, state_after}
 use Rattle.plain_list.specs.History.{world_after, failed_cell}
@@ -11,9 +11,10 @@ use Rattle.commit_book.specs.BookView.{BookView}
 use Rattle.commit_book.specs.KeptBases.{KeepsBases}
 use Rattle.commit_book.specs.Room.{BeginsInRoom}
 
--- the most entries of a history
-abbrev pub most_events : ℕ
-most_events = 4194304
+-- the most entries of a history: of one whose list is kept, and of one whose list isn't, 2 ^ 60
+abbrev pub most_events : Bool → ℕ
+most_events true = 4194304
+most_events false = 1152921504606846976
 
 -- the most splits that may have begun before a book: 2 ^ 62
 abbrev pub most_begun : ℕ
@@ -34,16 +35,18 @@ pub record IsBook {D : Type 0} (drive : D → Drive) (w : ℕ) (b : BookView D) 
   pub legal : IsLegal w b.opening b.entries
   pub stands : Stands b.leaves (places_of (world_after b.opening.world b.entries)) (state_after w b.opening b.entries).leaves
   pub bases : KeepsBases w b.opening b.leaves b.entries
-  pub room : BeginsInRoom (first_in b.log) b.opening.world b.entries
-  pub few : length b.entries ≤ most_events
+  pub room : BeginsInRoom b.kept (first_in b.log) b.opening.world b.entries
+  pub few : length b.entries ≤ most_events b.kept
   pub on_log : KeepsIn drive w b.opening b.entries b.log
   pub named : (n : ℕ) → failed_cell b.entries ≡ Some n → n ≡ cells_in b.log
 
--- the same opening state, bucket size and opening of the log: only a renewal or a rotation changes these
+-- the same opening state, bucket size, opening of the log, and kind of history: only a rotation changes the first three,
+-- and nothing changes the kind of a history that has an entry
 pub record SameOrigin {D : Type 0} (old new : BookView D) : Type 0 where
   pub opening : new.opening ≡ old.opening
   pub bucket : new.bucket ≡ old.bucket
   pub log : IsSinceIn old.log new.log
+  pub kept : new.kept ≡ old.kept
 
 -- both are books, before a call and after it
 pub record AreBooks {D : Type 0} (drive : D → Drive) (w : ℕ) (old new : BookView D) : Type 0 where

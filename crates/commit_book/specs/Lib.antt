@@ -10,7 +10,7 @@ pub mod IsBook
 pub mod KeptBases
 pub mod OpenedLog
 pub mod Refusals
-pub mod Renewal
+pub mod RoomLeft
 pub mod Room
 pub mod Rotation
 pub mod SplitSteps

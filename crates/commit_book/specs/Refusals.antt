@@ -73,21 +73,21 @@ first_of None later = later
 abbrev pub closed_refusal : List Entry → Option BookFault
 closed_refusal entries = option_map Closed (failed_cell entries)
 
-abbrev pub events_refusal : List Entry → Option BookFault
-events_refusal entries = if length entries == most_events then Some HistoryFull else None
+abbrev pub events_refusal : Bool → List Entry → Option BookFault
+events_refusal kept entries = if length entries == most_events kept then Some HistoryFull else None
 
 -- why a query is refused
-abbrev pub call_refusal : List Entry → Option BookFault
-call_refusal entries = first_of (closed_refusal entries) (events_refusal entries)
+abbrev pub call_refusal : Bool → List Entry → Option BookFault
+call_refusal kept entries = first_of (closed_refusal entries) (events_refusal kept entries)
 
 -- why the end of a split is refused
-abbrev pub end_refusal : ℕ → List Entry → Option BookFault
-end_refusal cells entries = first_of (call_refusal entries) (if cells == most_cells then Some LogFull else None)
+abbrev pub end_refusal : Bool → ℕ → List Entry → Option BookFault
+end_refusal kept cells entries = first_of (call_refusal kept entries) (if cells == most_cells then Some LogFull else None)
 
 -- why a change or a find is refused; a find, and a call that changes nothing, needs no record
 abbrev pub update_refusal : {D : Type 0} → BookView D → Op → Option BookFault
 update_refusal b op =
-    first_of (call_refusal b.entries)
+    first_of (call_refusal b.kept b.entries)
     (if (cells_in b.log == most_cells) && is_change (answer_of (world_after b.opening.world b.entries) op) then Some LogFull else None)
 
 -- the number of the open split of this name
@@ -102,13 +102,13 @@ leaf_refusal w s name =
     else if nat_lt 64 (length name + w) then Some Deep
     else option_map Splitting (split_number s.splits name)
 
-abbrev pub room_refusal : ℕ → ℕ → Option BookFault
-room_refusal cells events = if has_no_room cells events then Some (Room cells events) else None
+abbrev pub room_refusal : Bool → ℕ → ℕ → Option BookFault
+room_refusal kept cells events = if has_no_room kept cells events then Some (Room cells events) else None
 
 -- why the begin of a split is refused
 abbrev pub begin_refusal : {D : Type 0} → ℕ → BookView D → List Bool → Option BookFault
 begin_refusal w b name =
-    first_of (closed_refusal b.entries) (first_of (room_refusal (cells_in b.log) (length b.entries)) (leaf_refusal w (state_after w b.opening b.entries) name))
+    first_of (closed_refusal b.entries) (first_of (room_refusal b.kept (cells_in b.log) (length b.entries)) (leaf_refusal w (state_after w b.opening b.entries) name))
 
 -- whether an open split has this number and this name
 abbrev pub is_open : List OpenSplit → ℕ → List Bool → Bool
@@ -121,7 +121,7 @@ has_base leaves name base = option_map_or (λ (l : Leaf). same_rows l.bucket.bas
 -- why the install of a split with this number, name and base is refused
 abbrev pub install_refusal : {D : Type 0} → ℕ → BookView D → ℕ → List Bool → List Row → Option BookFault
 install_refusal w b number name base =
-    first_of (end_refusal (cells_in b.log) b.entries)
+    first_of (end_refusal b.kept (cells_in b.log) b.entries)
     (if is_open (state_after w b.opening b.entries).splits number name && has_base b.leaves name base then None else Some (Stale number))
 
 abbrev pub prepared_refusal : {D : Type 0} → ℕ → BookView D → PreparedView → Option BookFault
@@ -130,4 +130,4 @@ prepared_refusal w b p = install_refusal w b p.number p.name p.base
 -- why the abandonment of a split is refused
 abbrev pub abandon_refusal : {D : Type 0} → ℕ → BookView D → ℕ → Option BookFault
 abandon_refusal w b number =
-    first_of (end_refusal (cells_in b.log) b.entries) (if is_some (split_name (state_after w b.opening b.entries).splits number) then None else Some (NotOpen number))
+    first_of (end_refusal b.kept (cells_in b.log) b.entries) (if is_some (split_name (state_after w b.opening b.entries).splits number) then None else Some (NotOpen number))

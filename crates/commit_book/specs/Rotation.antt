@@ -1,5 +1,5 @@
 -- A book that continues on another log.
-use Rattle.std.specs.Prelude.{◌≡◌, ℕ, List, [], Some}
+use Rattle.std.specs.Prelude.{◌≡◌, ℕ, Bool, List, [], Some}
 use Rattle.index_layer.specs.Leaves.{Leaf, names_of}
 use Rattle.plain_list.specs.History.{world_after}
 use Rattle.plain_list.specs.State.{state_after}
@@ -20,16 +20,18 @@ pub record HasContentAnew {D : Type 0} (w : ℕ) (b : BookView D) (leaves : List
   pub leaves_are : seen.leaves ≡ names_of leaves
   pub stands : StandsBySize w b.bucket (world_after b.opening.world b.entries) leaves
 
--- a book of these leaves and bucket size on a log opened on this drive: it begins at the state found, with no entry
-abbrev pub book_on : {D : Type 0} → Seen → LogView D → D → List Leaf → ℕ → BookView D
-book_on seen log start leaves bucket = record {
+-- A book of these leaves and bucket size on a log opened on this drive: it begins at the state found, with no entry. `kept`
+-- is whether it keeps the list of its entries.
+abbrev pub book_on : {D : Type 0} → Bool → Seen → LogView D → D → List Leaf → ℕ → BookView D
+book_on kept seen log start leaves bucket = record {
   leaves = leaves;
   opening = found_state seen;
   entries = [];
   bucket = bucket;
   log = Some (first_log log start);
+  kept = kept;
 }
 
--- the same leaves and bucket size on such a log
+-- the same leaves, bucket size and kind of history on such a log
 abbrev pub rotated : {D : Type 0} → Seen → LogView D → D → BookView D → BookView D
-rotated seen log start b = book_on seen log start b.leaves b.bucket
+rotated seen log start b = book_on b.kept seen log start b.leaves b.bucket

@@ -43,7 +43,7 @@ pub record CanStep {D : Type 0} (step : Lost) (events : Events) (log : Option (K
 -- A step was tried. This entry ends the history, and the log keeps it. At every moment a crash leaves the records from
 -- before, or these and the step's own record.
 pub record EndsStep {D : Type 0} (drive : D → Drive) (step : Lost) (last : Entry) (before after : Events) (old new : Option (KeptView D)) : Type 0 where
-  pub events : after ≡ record { entries = before.entries ++ last ∷ []; room = before.room - 1 }
+  pub events : after ≡ record before { entries = before.entries ++ last ∷ []; room = before.room - 1 }
   pub keeps : (w : ℕ) (s : State) → IsStep w s before.entries step → KeepsIn drive w s before.entries old → KeepsIn drive w s (before.entries ++ last ∷ []) new
   pub any_moment : (w : ℕ) (s : State) → IsStep w s before.entries step → KeepsIn drive w s before.entries old → LeavesEither drive w s before.entries (entry_of step) old new
   pub since : IsSinceIn old new

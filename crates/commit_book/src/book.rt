@@ -10,7 +10,7 @@ ghost use Rattle.kept_log.specs.Journal.{failed_cell, cells_in, disk_in};
 ghost use Rattle.plain_list.specs.declared.entries.Lost.{Lost};
 ghost use Rattle.plain_list.specs.declared.entries.Entry.{Entry};
 ghost use Rattle.commit_book.specs.Answers.{IsUpdate, IsQuery, Notes, Replies, is_still_since};
-ghost use Rattle.commit_book.specs.BookView.{first_log, StandsAfter};
+ghost use Rattle.commit_book.specs.BookView.{first_log, list_in, StandsAfter};
 ghost use Rattle.commit_book.specs.Crash.{LeavesCells};
 ghost use Rattle.commit_book.specs.Events.{with_entry};
 ghost use Rattle.commit_book.specs.IsBook.{IsBook, AreBooks};
@@ -19,12 +19,13 @@ ghost use Rattle.commit_book.specs.Refusals.{IsRefusedBy, IsMemory, IsMemoryOrDi
 ghost use Rattle.commit_book.specs.Rotation.{book_on};
 
 mod batches;
-mod renewal;
+mod room;
 mod rotation;
 mod splits;
 
 use crate::faults::BookFault;
 use crate::history::History;
+pub use crate::history::{MOST_EVENTS, MOST_EVENTS_UNLISTED};
 use crate::open_splits::OpenSplits;
 use crate::opening::Opening;
 use crate::steps::{Step, fault_of};
@@ -35,15 +36,12 @@ use kept_log::Journal;
 use plain_list::{Answer, Entries, Entry, Lost, Op};
 use point_table::PointTable;
 use recovery::Opened;
-pub use renewal::Room;
+pub use room::Room;
 pub use rotation::{Anew, Content, Replaced};
-pub use splits::{MOST_CELLS_TO_BEGIN, MOST_EVENTS_TO_BEGIN};
+pub use splits::{MOST_CELLS_TO_BEGIN, MOST_EVENTS_TO_BEGIN, MOST_EVENTS_TO_BEGIN_UNLISTED};
 use std::alloc::Global;
 use std::marker::Model;
 use zorder::{Memory, Name};
-
-/// The most entries of a history.
-pub const MOST_EVENTS: u64 = 4_194_304;
 
 /// What a book returns for a change or a find.
 #[derive(Drop)]
@@ -72,7 +70,7 @@ pub struct BookParts<I: Index, D: LogDisk> {
     pub index: I,
     /// The drive of the log, if there is a log.
     pub disk: Option<D>,
-    /// The history of the run.
+    /// The history of the run, if the book kept the list of its entries, and else no entry.
     pub entries: Entries,
 }
 
@@ -105,25 +103,25 @@ impl<I: Index, D: LogDisk> Model for Book<I, D> {
 }
 
 impl<I: Index, D: LogDisk> Book<I, D> {
-    /// Creates a book without objects, entries and log. `bucket` is 4 to 4,096 rows.
+    /// Creates a book without objects, entries and log. It keeps the list of its entries. `bucket` is 4 to 4,096 rows.
     pub fn fresh(alloc: Global, bucket: u32) -> Result<Book<I, D>, Memory>
-        ensures { IfOk result (λ b. (b.opening ≡ empty_state) × (b.entries ≡ []) × (b.bucket ≡ bucket) × (b.log ≡ None)) }
+        ensures { IfOk result (λ b. (b.opening ≡ empty_state) × (b.entries ≡ []) × (b.bucket ≡ bucket) × (b.log ≡ None) × (b.kept ≡ true)) }
     {
         let table = PointTable::fresh(alloc, bucket)?;
         Ok(Book {
             opening: Opening::of(&table, 0),
             table,
             splits: OpenSplits::after(alloc, 0),
-            history: History::new(alloc),
+            history: History::empty(alloc, true),
             journal: Journal::none(),
         })
     }
 
-    /// Creates a book on an opened log, with the objects and leaves found there, no open split and no entries. `bucket`
-    /// is 4 to 4,096 rows. If memory runs out, `Err` returns what was opened.
+    /// Creates a book on an opened log, with the objects and leaves found there, no open split and no entries. It keeps
+    /// the list of its entries. `bucket` is 4 to 4,096 rows. If memory runs out, `Err` returns what was opened.
     pub fn opened(alloc: Global, opened: Opened<D>, bucket: u32) -> Result<Book<I, D>, Opened<D>>
         requires { IsOpenedLog D.drive I.WIDTH opened.seen opened.start.value opened.log }
-        ensures opening { IfOk result (λ b. (b.opening ≡ found_state opened.seen) × (b.entries ≡ []) × (b.bucket ≡ bucket)) }
+        ensures opening { IfOk result (λ b. (b.opening ≡ found_state opened.seen) × (b.entries ≡ []) × (b.bucket ≡ bucket) × (b.kept ≡ true)) }
         ensures log { IfOk result (λ b. b.log ≡ Some (first_log opened.log opened.start.value)) }
         ensures back { IfErr result (λ back. back ≡ opened) }
     {
@@ -131,11 +129,22 @@ impl<I: Index, D: LogDisk> Book<I, D> {
         let Ok(table) = PointTable::built(alloc, &opened.seen.world, leaves, bucket) else {
             return Err(opened);
         };
-        Ok(on_log(alloc, table, opened))
+        Ok(on_log(alloc, true, table, opened))
+    }
+
+    /// Keeps no list of the entries from now on. The book then takes no memory for its entries, and up to 2^60 of them
+    /// fit. All else is as with a list, except that `into_parts` returns no entries.
+    pub fn without_list(self) -> Book<I, D>
+        requires { self.entries ≡ [] }
+        ensures { result ≡ record self { kept = false } }
+    {
+        let mut book = self;
+        book.history.keep_no_list();
+        book
     }
 
     /// Tries to take memory for this many more entries at once, so that the history is not moved as it grows. If memory
-    /// is short, nothing happens.
+    /// is short, nothing happens. A book without a list of its entries needs no memory, and nothing happens.
     pub fn make_room(&mut self, entries: usize)
         ensures { self.new ≡ self.old }
     {
@@ -247,12 +256,12 @@ impl<I: Index, D: LogDisk> Book<I, D> {
     }
 
     fn check_call(&self) -> Result<(), BookFault>
-        ensures { IsRefusedBy IsNoFault (call_refusal self.now.entries) result }
+        ensures { IsRefusedBy IsNoFault (call_refusal self.now.kept self.now.entries) result }
     {
         if let Some(cell) = self.closed() {
             return Err(BookFault::Closed { cell });
         }
-        if self.events() >= MOST_EVENTS {
+        if self.events() >= self.history.most() {
             return Err(BookFault::HistoryFull);
         }
         Ok(())
@@ -263,7 +272,7 @@ impl<I: Index, D: LogDisk> Book<I, D> {
         requires { IsQuery op.now }
         ensures ok { IfOk result (λ place. Notes self.old self.new session row op.now place) }
         ensures leaves { self.new.leaves ≡ self.old.leaves }
-        ensures refused { IsRefusedBy IsMemory (call_refusal self.old.entries) result }
+        ensures refused { IsRefusedBy IsMemory (call_refusal self.old.kept self.old.entries) result }
         ensures err { IfErr result (λ _. self.new ≡ self.old) }
         ensures book { AreBooks D.drive I.WIDTH self.old self.new }
     {
@@ -283,7 +292,7 @@ impl<I: Index, D: LogDisk> Book<I, D> {
         ensures ok { IfOk result (λ s. Notes self.old self.new session row op.now s.place) }
         ensures index { IfOk result (λ s. StandsAfter I.WIDTH self.new (I.leaves s.index)) }
         ensures leaves { IfOk result (λ s. (I.leaves s.index ≡ self.old.leaves) × (self.new.leaves ≡ self.old.leaves)) }
-        ensures refused { IsRefusedBy IsMemory (call_refusal self.old.entries) result }
+        ensures refused { IsRefusedBy IsMemory (call_refusal self.old.kept self.old.entries) result }
         ensures err { IfErr result (λ _. self.new ≡ self.old) }
         ensures book { AreBooks D.drive I.WIDTH self.old self.new }
     {
@@ -316,7 +325,7 @@ impl<I: Index, D: LogDisk> Book<I, D> {
     pub fn into_parts(self) -> BookParts<I, D>
         ensures leaves { I.leaves result.index ≡ self.leaves }
         ensures disk { result.disk ≡ disk_in self.log }
-        ensures entries { result.entries ≡ self.entries }
+        ensures entries { result.entries ≡ list_in self.kept self.entries }
     {
         BookParts {
             index: self.table.into_index(),
@@ -326,23 +335,25 @@ impl<I: Index, D: LogDisk> Book<I, D> {
     }
 }
 
-// A book without entries on an opened log, with a table of what was found there.
+// A book without entries on an opened log, with a table of what was found there. `kept` says whether it keeps the list of
+// its entries.
 fn on_log<I: Index, D: LogDisk>(
     alloc: Global,
+    kept: bool,
     table: PointTable<I>,
     opened: Opened<D>,
 ) -> Book<I, D>
     requires opened { IsOpenedLog D.drive I.WIDTH opened.seen opened.start.value opened.log }
     requires world { table.world ≡ opened.seen.world }
     requires leaves { names_of table.leaves ≡ opened.seen.leaves }
-    ensures { result ≡ book_on opened.seen opened.log opened.start.value table.leaves table.size }
+    ensures { result ≡ book_on kept opened.seen opened.log opened.start.value table.leaves table.size }
 {
     let begun = opened.seen.begun;
     Book {
         opening: Opening::of(&table, begun),
         table,
         splits: OpenSplits::after(alloc, begun),
-        history: History::new(alloc),
+        history: History::empty(alloc, kept),
         journal: Journal::opened(opened.log, opened.start),
     }
 }

@@ -2,7 +2,6 @@
 ghost use Rattle.std.specs.Prelude.{◌≡◌};
 
 use std::alloc::AllocError;
-use thiserror::Error;
 use zorder::Memory;
 
 /// Why a call of a book did nothing. After each fault except `Disk` the book is unchanged. A book without a log never
@@ -21,14 +20,16 @@ pub enum BookFault {
         /// none.
         cell: u64,
     },
-    /// The history has 4,194,304 entries, or would have more after the batch.
+    /// The history has as many entries as it may have, or would have more after the batch: 4,194,304 if the book keeps the
+    /// list of its entries, and else 2^60.
     HistoryFull,
     /// The log has 16,777,216 records, and the step needs one. Or it has no room for one record for each put, move and
     /// removal of a batch.
     LogFull,
     /// Memory ran out. The log was not written.
     Memory,
-    /// The log has more than 16,000,000 records, or the history more than 4,000,000 entries, so no split begins.
+    /// The log has more than 16,000,000 records, or the history is near its most entries: it has more than 4,000,000, or
+    /// 2^60 less 194,304 if the book doesn't keep their list. So no split begins.
     Room {
         /// How many records the log has: 0 without a log.
         cells: u64,
@@ -53,23 +54,6 @@ pub enum BookFault {
     NotOpen {
         /// The number that the caller passed.
         number: u64,
-    },
-}
-
-/// Why a book was not renewed. The book is unchanged.
-#[derive(Clone, Copy, Debug, PartialEq, Eq, Error)]
-pub enum RenewFault {
-    /// An earlier call returned `Disk` for this record, so the history has ended.
-    #[error("the append of record {cell} has failed")]
-    Closed {
-        /// The record whose append failed, counted from 0.
-        cell: u64,
-    },
-    /// So many splits were begun, in this history and before it, that the next number may not fit in 64 bits.
-    #[error("{splits} splits were begun, too many for a further history")]
-    Begun {
-        /// How many splits were begun: more than 4,611,686,018,427,387,904.
-        splits: u64,
     },
 }
 

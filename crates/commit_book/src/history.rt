@@ -1,22 +1,39 @@
-//! The entries of a run, with memory for those that are promised.
-ghost use Rattle.std.specs.Prelude.{◌≡◌, ◌+◌, ◌-◌, ◌<◌, ◌≤◌, ◌∷◌, ◌++◌, ◌^◌, [], if◌then◌else◌, OnOk, OnErr, length, vec_len, vec_capacity};
+//! The entries of a run. Their list is kept, with memory for those that are promised, or only their counts are.
+ghost use Rattle.std.specs.Prelude.{◌≡◌, ◌+◌, ◌-◌, ◌<◌, ◌≤◌, ◌∷◌, ◌++◌, ◌^◌, false, [], if◌then◌else◌, OnOk, OnErr, length, vec_len, vec_capacity};
 ghost use Rattle.plain_list.specs.History.{call_count};
 ghost use Rattle.plain_list.specs.Batch.{batch_calls};
-ghost use Rattle.std.specs.List.{list_all};
 ghost use Rattle.commit_book.specs.Answers.{is_ask, is_still, is_still_since};
 ghost use Rattle.commit_book.specs.Events.{with_entry, with_entries};
 ghost use Rattle.commit_book.specs.BatchSteps.{flagged_fails};
+ghost use Rattle.commit_book.specs.BookView.{list_in};
+ghost use Rattle.commit_book.specs.IsBook.{most_events};
 
+use crate::past::Past;
 use plain_list::{Entry, Lost, Op};
 use std::alloc::{AllocError, Global};
 use std::marker::Model;
 
+/// The most entries of a history whose list is kept.
+pub const MOST_EVENTS: u64 = 4_194_304;
+
+/// The most entries of a history whose list isn't kept.
+pub const MOST_EVENTS_UNLISTED: u64 = 1 << 60;
+
 /// The entries, and how many more fit without taking memory.
 #[derive(Drop)]
 pub(crate) struct History {
-    entries: Vec<Entry>,
+    /// Whether the list of the entries is kept.
+    kept: bool,
+    /// The entries if their list is kept, and else none.
+    list: Vec<Entry>,
+    /// How many entries there are.
+    len: usize,
+    /// How many of them are calls.
     calls: u64,
+    /// The number of the last entry that may have changed the world, from 1, or 0 if there is none.
+    changed: usize,
     room: usize,
+    past: Past,
 }
 
 impl Model for History {
@@ -32,20 +49,51 @@ impl Model for History {
 }
 
 impl History {
-    pub(crate) fn new(alloc: Global) -> History
-        ensures { result ≡ record { entries = []; room = 0 } }
+    /// No entries. `kept` says whether the list of the later ones is kept.
+    pub(crate) fn empty(alloc: Global, kept: bool) -> History
+        ensures { result ≡ record { entries = []; room = 0; kept = kept } }
     {
         History {
-            entries: Vec::new(alloc),
+            kept,
+            list: Vec::new(alloc),
+            len: 0,
             calls: 0,
+            changed: 0,
             room: 0,
+            past: Past::new(),
         }
+    }
+
+    /// Keeps no list of the entries from now on. Then no entry takes memory.
+    pub(crate) fn keep_no_list(&mut self)
+        requires { self.old.entries ≡ [] }
+        ensures { self.new ≡ record self.old { kept = false } }
+    {
+        self.kept = false;
     }
 
     pub(crate) fn len(&self) -> usize
         ensures { result ≡ length self.now.entries }
     {
-        self.entries.len()
+        self.len
+    }
+
+    /// Whether the list of the entries is kept.
+    pub(crate) fn is_kept(&self) -> bool
+        ensures { result ≡ self.now.kept }
+    {
+        self.kept
+    }
+
+    /// The most entries of a history of this kind.
+    pub(crate) fn most(&self) -> u64
+        ensures { result ≡ most_events self.now.kept }
+    {
+        if self.kept {
+            MOST_EVENTS
+        } else {
+            MOST_EVENTS_UNLISTED
+        }
     }
 
     /// How many entries are calls.
@@ -59,19 +107,18 @@ impl History {
     pub(crate) fn is_still_since(&self, events: usize) -> bool
         ensures { result ≡ is_still_since events self.now.entries }
     {
-        match self.entries.get(events..) {
-            Some(later) => are_still(later),
-            None => true,
-        }
+        self.changed <= events
     }
 
-    /// Makes room for this many more entries.
+    /// Makes room for this many more entries. Without a list it always succeeds.
     pub(crate) fn reserve(&mut self, entries: usize) -> Result<(), AllocError>
         requires { length self.old.entries + entries < 2 ^ 63 }
         ensures ok { OnOk result (self.new ≡ record self.old { room = entries }) }
         ensures err { OnErr result (self.new ≡ self.old) }
     {
-        self.entries.reserve(entries)?;
+        if self.kept {
+            self.list.reserve(entries)?;
+        }
         self.room = entries;
         Ok(())
     }
@@ -80,7 +127,9 @@ impl History {
     pub(crate) fn make_room(&mut self, entries: usize)
         ensures { self.new ≡ self.old }
     {
-        let _ = self.entries.reserve(entries);
+        if self.kept {
+            let _ = self.list.reserve(entries);
+        }
     }
 
     /// Appends an entry, which uses one place of the room.
@@ -90,8 +139,15 @@ impl History {
         ensures { self.new ≡ with_entry entry self.old }
     {
         self.room -= 1;
+        self.len += 1;
         self.calls += calls_in(&entry);
-        push_within(&mut self.entries, entry);
+        if !is_still(&entry) {
+            self.changed = self.len;
+        }
+        self.past = Past::with(&self.past, &entry);
+        if self.kept {
+            push_within(&mut self.list, entry);
+        }
     }
 
     /// Appends the calls of a batch, each of which uses one place of the room. The first has this row, and each of the
@@ -148,10 +204,11 @@ impl History {
         }
     }
 
+    /// The list of the entries, which is empty if it wasn't kept.
     pub(crate) fn into_entries(self) -> Vec<Entry>
-        ensures { result.items ≡ self.entries }
+        ensures { result.items ≡ list_in self.kept self.entries }
     {
-        self.entries
+        self.list
     }
 }
 
@@ -166,17 +223,6 @@ fn calls_in(entry: &Entry) -> u64
         Entry::Abandon { .. } => 0,
         Entry::Fail { .. } => 0,
     }
-}
-
-fn are_still(entries: &[Entry]) -> bool
-    ensures { result ≡ list_all is_still entries.now }
-{
-    for entry in entries {
-        if !is_still(entry) {
-            return false;
-        }
-    }
-    true
 }
 
 // Whether an entry leaves every world unchanged: a query, a find, or a step of a split.

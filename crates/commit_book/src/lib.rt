@@ -15,7 +15,10 @@
 //! records of its changes together: a crash leaves all of them or none. The batch is worked out beside the table first
 //! (`BatchPlan`), so a batch that is refused or whose append fails has changed nothing there.
 //!
-//! `renew` begins an empty history where the present one ends, and `room` returns how much more the book takes.
+//! A book keeps the list of its entries, and takes at most 4,194,304 of them. After `without_list` it keeps none: then it
+//! takes no memory for its entries, and 2^60 of them fit. Contracts see the same history of either kind. `room` returns how
+//! much more the book takes.
+//!
 //! `content` copies the objects and the names of the leaves, from which the caller writes another log. `rotate`
 //! continues on that log, with an empty history. `anew` and `rotate_anew` do the same with fresh leaves, those that the
 //! bucket size requires.
@@ -30,11 +33,13 @@ mod faults;
 mod history;
 mod open_splits;
 mod opening;
+mod past;
 mod sending;
 mod steps;
 
 pub use book::{
     Anew, BatchDone, Book, BookParts, Content, Done, MOST_CELLS_TO_BEGIN, MOST_EVENTS,
-    MOST_EVENTS_TO_BEGIN, Replaced, Room, Snapshot,
+    MOST_EVENTS_TO_BEGIN, MOST_EVENTS_TO_BEGIN_UNLISTED, MOST_EVENTS_UNLISTED, Replaced, Room,
+    Snapshot,
 };
-pub use faults::{BookFault, RenewFault};
+pub use faults::BookFault;

@@ -3,6 +3,5 @@ pub mod StepCells
 pub mod Adding
 pub mod Appending
 pub mod InJournal
-pub mod Renewing
 pub mod Batches
 pub mod BatchLemmas

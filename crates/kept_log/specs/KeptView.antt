@@ -11,10 +11,6 @@ pub record KeptView (D : Type 0) : Type 0 where
   pub start : D
   pub first : ℕ
 
--- The same log, as if it were opened in its present state.
-abbrev pub renewed_log : {D : Type 0} → KeptView D → KeptView D
-renewed_log log = record log { start = log.disk; first = log.cells }
-
 -- The log itself.
 abbrev pub kept_view : {D : Type 0} → KeptView D → LogView D
 kept_view log = record { disk = log.disk; cells = log.cells; failed = log.failed }

@@ -1,11 +1,8 @@
 //! The log of a store, and what it has kept since it was opened. A store may have no log.
-ghost use Rattle.std.specs.Prelude.{◌≡◌, ◌≤◌, ◌<◌, ◌+◌, ◌==◌, ℕ, List, [], Some, None, is_some, length, OnOk, IfErr};
-ghost use Rattle.std.specs.Option.{option_map};
-ghost use Rattle.plain_list.specs.declared.entries.Entry.{Entry};
-ghost use Rattle.plain_list.specs.State.{State, IsLegal};
+ghost use Rattle.std.specs.Prelude.{◌≡◌, ◌≤◌, ◌<◌, ◌+◌, ◌==◌, ℕ, [], Some, None, is_some, length, OnOk, IfErr};
+ghost use Rattle.plain_list.specs.State.{State};
 ghost use Rattle.split_log.specs.LogView.{most_cells};
-ghost use Rattle.kept_log.specs.Kept.{IsOpened, renewed_state};
-ghost use Rattle.kept_log.specs.KeptView.{renewed_log};
+ghost use Rattle.kept_log.specs.Kept.{IsOpened};
 ghost use Rattle.kept_log.specs.Steps.{IsSince};
 ghost use Rattle.kept_log.specs.Journal.{cells_in, failed_in, disk_in, log_in, KeepsIn, IsSinceIn, Added, Missed, LeavesNext, AddedAll, NotAdded, LeavesNextAll};
 
@@ -152,20 +149,6 @@ impl<D: LogDisk> Journal<D> {
         kept.append_all(alloc, cells)
     }
 
-    /// Continues from the log's present state, as if the log were opened in it. What the log has kept so far becomes
-    /// what was there first. No device call is made.
-    pub fn renew(&mut self)
-        requires open { failed_in self.old ≡ None }
-
-        ensures value { self.new ≡ option_map renewed_log self.old }
-        ensures keeps { (w : ℕ) (s : State) (h : List Entry) → IsLegal w s h → KeepsIn D.drive w s h self.old
-            → KeepsIn D.drive w (renewed_state w s h) [] self.new }
-    {
-        if let Some(kept) = &mut self.log {
-            kept.renew();
-        }
-    }
-
     /// Returns the log as it is now, if there is one.
     pub fn into_log(self) -> Option<SplitLog<D>>
         ensures { result ≡ log_in self }
@@ -219,12 +202,5 @@ impl<D: LogDisk> Kept<D> {
             Err(AppendAllFault::Memory) => Err(AppendAllLost::Memory),
             Err(AppendAllFault::LogFull) => unreachable!(),
         }
-    }
-
-    fn renew(&mut self)
-        ensures { self.new ≡ renewed_log self.old }
-    {
-        self.start = self.log.snapshot();
-        self.first = Snapshot::of(&self.log.cells());
     }
 }

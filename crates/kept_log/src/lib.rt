@@ -8,8 +8,6 @@
 //! - At each moment of an append a crash leaves the cells from its start, with the new one or without it.
 //! - `append_all` adds a batch. A crash leaves all cells of the batch or none. After a disk fault the journal keeps the
 //!   history that ends with the failed appends of the batch's changes.
-//! - `renew` continues as if the log were opened in its present state. The journal then keeps the empty history from
-//!   the state that the old one led to.
 //! - Without a log nothing is kept, and no append fails.
 //! - An append requires room in the log, so a cell is added unless the drive fails. `append_all` may also lack memory.
 //!

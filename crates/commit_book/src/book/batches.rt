@@ -8,7 +8,7 @@ ghost use Rattle.commit_book.specs.IsBook.{AreBooks};
 ghost use Rattle.commit_book.specs.Refusals.{IsRefusedBy, IsMemoryOrDisk, IsNoFault};
 
 use crate::batch_steps::{BatchPlan, plan, publish};
-use crate::book::{Book, MOST_EVENTS};
+use crate::book::Book;
 use crate::faults::BookFault;
 use crate::history::is_ask;
 use disk_trait::LogDisk;
@@ -84,7 +84,7 @@ impl<I: Index, D: LogDisk> Book<I, D> {
         if let Some(cell) = self.closed() {
             return Err(BookFault::Closed { cell });
         }
-        if ops.len() as u64 > MOST_EVENTS - self.events() {
+        if ops.len() as u64 > self.history.most() - self.events() {
             return Err(BookFault::HistoryFull);
         }
         if most_changes(ops) as u64 > MOST_CELLS - self.cells() {

@@ -13,7 +13,7 @@ ghost use Rattle.commit_book.specs.Rotation.{HasContent, HasContentAnew, book_on
 use crate::book::{Book, on_log};
 use disk_trait::LogDisk;
 use index_layer::Index;
-use plain_list::{Entries, World};
+use plain_list::World;
 use point_table::leaf_names;
 use recovery::{Leaves, Opened};
 use split_log::SplitLog;
@@ -38,8 +38,6 @@ pub struct Anew<I: Index> {
 /// A book that continues on another log, and what it kept of the log before.
 pub struct Replaced<I: Index, D: LogDisk> {
     pub book: Book<I, D>,
-    /// The history up to the rotation.
-    pub entries: Entries,
     /// The log up to the rotation, if there was one.
     pub log: Option<SplitLog<D>>,
 }
@@ -81,23 +79,18 @@ impl<I: Index, D: LogDisk> Book<I, D> {
 
     /// Continues on another log, which must have the book's objects and leaves. The objects and the leaves are not
     /// copied, no memory is taken, and the device is not called. A split that is still open is given up, as at the
-    /// opening of a log. The next split's number follows those of the other log.
+    /// opening of a log. The next split's number follows those of the other log. The new book keeps the list of its
+    /// entries if and only if this one did.
     pub fn rotate(self, alloc: Global, opened: Opened<D>) -> Replaced<I, D>
         requires opened { IsOpenedLog D.drive I.WIDTH opened.seen opened.start.value opened.log }
         requires content { HasContent I.WIDTH self opened.seen }
         ensures rotated { result.book ≡ rotated opened.seen opened.log opened.start.value self }
-        ensures entries { result.entries ≡ self.entries }
         ensures log { result.log ≡ log_in self.log }
     {
-        let Book {
-            table,
-            history,
-            journal,
-            ..
-        } = self;
+        let kept = self.history.is_kept();
+        let Book { table, journal, .. } = self;
         Replaced {
-            book: on_log(alloc, table, opened),
-            entries: Entries::from_vec(history.into_entries()),
+            book: on_log(alloc, kept, table, opened),
             log: journal.into_log(),
         }
     }
@@ -106,20 +99,18 @@ impl<I: Index, D: LogDisk> Book<I, D> {
     pub fn rotate_anew(self, alloc: Global, index: I, opened: Opened<D>) -> Replaced<I, D>
         requires opened { IsOpenedLog D.drive I.WIDTH opened.seen opened.start.value opened.log }
         requires content { HasContentAnew I.WIDTH self (I.leaves index) opened.seen }
-        ensures rotated { result.book ≡ book_on opened.seen opened.log opened.start.value (I.leaves index) self.bucket }
-        ensures entries { result.entries ≡ self.entries }
+        ensures rotated { result.book ≡ book_on self.kept opened.seen opened.log opened.start.value (I.leaves index) self.bucket }
         ensures log { result.log ≡ log_in self.log }
     {
+        let kept = self.history.is_kept();
         let Book {
             mut table,
-            history,
             journal,
             ..
         } = self;
         table.take_index(index);
         Replaced {
-            book: on_log(alloc, table, opened),
-            entries: Entries::from_vec(history.into_entries()),
+            book: on_log(alloc, kept, table, opened),
             log: journal.into_log(),
         }
     }

@@ -6,7 +6,7 @@ ghost use Rattle.plain_list.specs.declared.entries.Entry.{Entry};
 ghost use Rattle.commit_book.specs.BookView.{next_number};
 ghost use Rattle.commit_book.specs.Crash.{LeavesCells};
 ghost use Rattle.commit_book.specs.IsBook.{AreBooks};
-ghost use Rattle.commit_book.specs.Refusals.{IsRefusedBy, IsDisk, IsMemoryOrDisk, IsNoFault, LeavesRefused, begin_refusal, has_no_room, room_refusal, leaf_refusal, end_refusal, has_base, prepared_refusal, abandon_refusal};
+ghost use Rattle.commit_book.specs.Refusals.{IsRefusedBy, IsDisk, IsMemoryOrDisk, IsNoFault, LeavesRefused, begin_refusal, has_no_room, most_events_to_begin, room_refusal, leaf_refusal, end_refusal, has_base, prepared_refusal, abandon_refusal};
 ghost use Rattle.kept_log.specs.Journal.{cells_in};
 ghost use Rattle.commit_book.specs.SplitSteps.{Begins, CanPrepare, Installs, Abandons};
 
@@ -23,8 +23,11 @@ use zorder::Name;
 /// If the log has more records than this, no split begins.
 pub const MOST_CELLS_TO_BEGIN: u64 = 16_000_000;
 
-/// If the history has more entries than this, no split begins.
+/// If a history whose list is kept has more entries than this, no split begins.
 pub const MOST_EVENTS_TO_BEGIN: u64 = 4_000_000;
+
+/// If a history whose list isn't kept has more entries than this, no split begins.
+pub const MOST_EVENTS_TO_BEGIN_UNLISTED: u64 = (1 << 60) - 194_304;
 
 impl<I: Index, D: LogDisk> Book<I, D> {
     /// Begins a split. The leaf's rows become its base, which stays unchanged until the split ends. The memory for the
@@ -77,7 +80,7 @@ impl<I: Index, D: LogDisk> Book<I, D> {
     }
 
     fn check_room(&self) -> Result<(), BookFault>
-        ensures { IsRefusedBy IsNoFault (room_refusal (cells_in self.now.log) (length self.now.entries)) result }
+        ensures { IsRefusedBy IsNoFault (room_refusal self.now.kept (cells_in self.now.log) (length self.now.entries)) result }
     {
         if self.is_near_end() {
             return Err(BookFault::Room {
@@ -91,9 +94,19 @@ impl<I: Index, D: LogDisk> Book<I, D> {
     /// Whether the log has too many records, or the history too many entries, for another split. `room` returns what
     /// else fits.
     pub fn is_near_end(&self) -> bool
-        ensures { result ≡ has_no_room (cells_in self.now.log) (length self.now.entries) }
+        ensures { result ≡ has_no_room self.now.kept (cells_in self.now.log) (length self.now.entries) }
     {
-        self.cells() > MOST_CELLS_TO_BEGIN || self.events() > MOST_EVENTS_TO_BEGIN
+        self.cells() > MOST_CELLS_TO_BEGIN || self.events() > self.most_events_to_begin()
+    }
+
+    fn most_events_to_begin(&self) -> u64
+        ensures { result ≡ most_events_to_begin self.now.kept }
+    {
+        if self.history.is_kept() {
+            MOST_EVENTS_TO_BEGIN
+        } else {
+            MOST_EVENTS_TO_BEGIN_UNLISTED
+        }
     }
 
     fn check_leaf(&self, name: &Name) -> Result<(), BookFault>
@@ -157,7 +170,7 @@ impl<I: Index, D: LogDisk> Book<I, D> {
 
     // Refuses the end of a split if the book is closed, or has no room for an entry and a record.
     fn check_end(&self) -> Result<(), BookFault>
-        ensures { IsRefusedBy IsNoFault (end_refusal (cells_in self.now.log) self.now.entries) result }
+        ensures { IsRefusedBy IsNoFault (end_refusal self.now.kept (cells_in self.now.log) self.now.entries) result }
     {
         self.check_call()?;
         if self.journal.is_full() {

@@ -21,7 +21,7 @@ invariant_of-result g c =
       begun = omega (arith, begun, ap (λ (s : State). s.begun) same);
       comes = subst (λ (s : State). ComesBySplits w s.leaves) (sym same) (found-comes _ w _ _ seen c.requires.opened.found);
     })
-    c.new.ensures (sym (ap (λ (s : State). s.world) c.of.ensures)) (sym (ap (λ (s : State). s.leaves) c.of.ensures))
+    (ap (λ (v : Events). v.entries) c.empty.ensures) (sym (ap (λ (s : State). s.world) c.of.ensures)) (sym (ap (λ (s : State). s.leaves) c.of.ensures))
     (c.after.ensures ∙ (λ i. record { splits = []; begun = sym (ap (λ (s : State). s.begun) same) i; room = 0 }))
     (subst (λ (s : State). KeepsIn drive w s [] c.opened.result) (sym same) kept)
 
@@ -35,7 +35,8 @@ returns g c =
     λ i. record {
       leaves = c.args.table.leaves;
       opening = same i;
-      entries = (ap (λ (v : Events). v.entries) c.new.ensures) i;
+      entries = (c.empty.ensures i).entries;
       bucket = c.args.table.size;
       log = journal i;
+      kept = (c.empty.ensures i).kept;
     }

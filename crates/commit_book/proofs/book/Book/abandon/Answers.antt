@@ -6,6 +6,7 @@ use Rattle.plain_list.specs.State.{OpenSplit, split_name, state_after}
 use Rattle.kept_log.proofs.InJournal.{leaves-quiet}
 use Rattle.commit_book.specs.BookInside.{book_of}
 use Rattle.commit_book.specs.Refusals.{IsDisk}
+use Rattle.commit_book.specs.Events.{Events}
 use Rattle.commit_book.proofs.BookStates.{inside-abandon}
 use Rattle.commit_book.proofs.RefusalLemmas.{MayAbandon, may_abandon, passed, some_of}
 use Rattle.commit_book.proofs.SplitCells.{abandon_step, some_open}
@@ -65,7 +66,7 @@ invariant_of-self-2 g c =
     let it =
     taken g.D.LogDisk.drive w b.opening b c.self.invariant may.may.going b.history.room _ c.commit.new.self
     (abandon_step w b.opening b.history.entries c.self.invariant.legal may.may.going number name.0 name.1) refl refl (c.if-not-commit.ensures.done refl) in
-    inside-abandon g.D.LogDisk.drive w b.opening b _ c.self.invariant may.may.going it.keeps it.since number name.0 may.may.few found refl it.entries (omega (arith, it.room)) c.remove.ensures.splits c.remove.ensures.begun
+    inside-abandon g.D.LogDisk.drive w b.opening b _ c.self.invariant may.may.going it.keeps it.since it.kept number name.0 may.may.few found refl it.entries (omega (arith, it.room)) c.remove.ensures.splits c.remove.ensures.begun
 
 pub returns-in_err-check_abandon-clause-refused : goal.returns-in_err-check_abandon-clause-refused
 returns-in_err-check_abandon-clause-refused g c = hands_on (Unit {0}) IsDisk _ c.in_err-check_abandon.field-0.0 _ c.in_err-check_abandon.ensures c.from_residual.ensures.1
@@ -96,7 +97,7 @@ returns-then-not-commit-clause-book g c =
     record {
       before = c.keep.ensures;
       after = c.keep-then-not-commit.ensures;
-      origin = rw (← c.self.view_is) (record { opening = refl; bucket = refl; log = (c.if-not-commit.ensures.lost refl).ends.since });
+      origin = rw (← c.self.view_is) (record { opening = refl; bucket = refl; log = (c.if-not-commit.ensures.lost refl).ends.since; kept = ap (λ (v : Events). v.kept) (c.if-not-commit.ensures.lost refl).ends.events });
     }
 
 pub returns-clause-ok : goal.returns-clause-ok
@@ -133,7 +134,7 @@ returns-clause-book g c =
     record {
       before = c.keep.ensures;
       after = c.keep-2.ensures;
-      origin = rw (← c.self.view_is) (record { opening = refl; bucket = refl; log = (c.if-not-commit.ensures.done refl).ends.since });
+      origin = rw (← c.self.view_is) (record { opening = refl; bucket = refl; log = (c.if-not-commit.ensures.done refl).ends.since; kept = ap (λ (v : Events). v.kept) (c.if-not-commit.ensures.done refl).ends.events });
     }
 
 pub returns-in_err-check_abandon-clause-ok : goal.returns-in_err-check_abandon-clause-ok

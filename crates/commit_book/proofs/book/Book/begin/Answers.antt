@@ -17,10 +17,11 @@ use Rattle.commit_book.specs.IsBook.{IsBook, most_events}
 use Rattle.commit_book.specs.Refusals.{IsMemoryOrDisk}
 use Rattle.commit_book.proofs.BookStates.{inside-begin}
 use Rattle.commit_book.proofs.KeptLemmas.{folded-under}
+use Rattle.commit_book.proofs.Limits.{begin-less, most-le}
 use Rattle.commit_book.proofs.RefusalLemmas.{MayBegin, may_begin, passed, is_leaf-names_of}
 use Rattle.commit_book.proofs.SplitCells.{begin_step, few_cells}
 use Rattle.plain_list.proofs.SplitHistories.{open-le, begun-le}
-use Rattle.commit_book.proofs.Undone.{can_step, inside-reserved, inside-undone, moments-undone, refused-undone, refused_freely, since-undone, taken}
+use Rattle.commit_book.proofs.Undone.{can_step, inside-reserved, inside-undone, kind-undone, moments-undone, refused-undone, refused_freely, since-undone, taken}
 use Rattle.commit_book.proofs.EarlyReturns.{never_ok, same_books, hands_on, no_memory, done_freely, calm-begin, leaves-checked, leaves-memory}
 use Rattle.commit_book.proofs.book.Book.begin.Goals as goal
 
@@ -37,12 +38,12 @@ returns-in_err-reserve-clause-any_moment g c =
 pub overflow_add-len : goal.overflow_add-len
 overflow_add-len g c =
     let h = c.self.inside.history.entries in
-    omega (arith, c.len.ensures, ap length c.in_ok-reserve.ensures.splits, ap length c.self.invariant.splits, open-le g.I.Index.WIDTH c.self.inside.opening h, ap length c.self.invariant.opening.rests, c.self.invariant.few)
+    omega (arith, c.len.ensures, ap length c.in_ok-reserve.ensures.splits, ap length c.self.invariant.splits, open-le g.I.Index.WIDTH c.self.inside.opening h, ap length c.self.invariant.opening.rests, c.self.invariant.few, most-le c.self.inside.history.kept)
 
 pub reserve-requires-2 : goal.reserve-requires-2
 reserve-requires-2 g c =
     let h = c.self.inside.history.entries in
-    omega (arith, c.len.ensures, ap length c.in_ok-reserve.ensures.splits, ap length c.self.invariant.splits, open-le g.I.Index.WIDTH c.self.inside.opening h, ap length c.self.invariant.opening.rests, c.self.invariant.few)
+    omega (arith, c.len.ensures, ap length c.in_ok-reserve.ensures.splits, ap length c.self.invariant.splits, open-le g.I.Index.WIDTH c.self.inside.opening h, ap length c.self.invariant.opening.rests, c.self.invariant.few, most-le c.self.inside.history.kept)
 
 pub returns-in_err-reserve-2-clause-any_moment : goal.returns-in_err-reserve-2-clause-any_moment
 returns-in_err-reserve-2-clause-any_moment g c =
@@ -51,7 +52,7 @@ returns-in_err-reserve-2-clause-any_moment g c =
 
 pub next_number-number-requires : goal.next_number-number-requires
 next_number-number-requires g c =
-    omega (arith, c.in_ok-reserve.ensures.begun, c.self.invariant.begun, begun-le g.I.Index.WIDTH c.self.inside.opening c.self.inside.history.entries, c.self.invariant.opening.begun, c.self.invariant.few)
+    omega (arith, c.in_ok-reserve.ensures.begun, c.self.invariant.begun, begun-le g.I.Index.WIDTH c.self.inside.opening c.self.inside.history.entries, c.self.invariant.opening.begun, c.self.invariant.few, most-le c.self.inside.history.kept)
 
 pub fold-requires-clause-can : goal.fold-requires-clause-can
 fold-requires-clause-can g c =
@@ -60,7 +61,7 @@ fold-requires-clause-can g c =
     let o = b.opening in
     let h = b.history.entries in
     let name = c.args.name.now in
-    let may : MayBegin w (state_after w o h) h (cells_in b.journal) name = may_begin w (book_of b) name (passed _ _ (rw (← c.self.view_is) at c.in_ok-check_begin.ensures)) in
+    let may : MayBegin b.history.kept w (state_after w o h) h (cells_in b.journal) name = may_begin w (book_of b) name (passed _ _ (rw (← c.self.view_is) at c.in_ok-check_begin.ensures)) in
     let number = c.next_number-number.result in
     can_step g.D.LogDisk.drive w o b c.reserve-2.new.self (lost.Begin number name) (cell.Begin number name) refl c.self.invariant may.going (few_cells (cells_in b.journal) may.room)
     (ap (λ (v : Events). v.entries) c.in_ok-reserve-2.ensures.ok) (omega (arith, ap (λ (v : Events). v.room) c.in_ok-reserve-2.ensures.ok))
@@ -72,7 +73,7 @@ fold-requires-clause-leaf g c =
     let o = b.opening in
     let h = b.history.entries in
     let name = c.args.name.now in
-    let may : MayBegin w (state_after w o h) h (cells_in b.journal) name = may_begin w (book_of b) name (passed _ _ (rw (← c.self.view_is) at c.in_ok-check_begin.ensures)) in
+    let may : MayBegin b.history.kept w (state_after w o h) h (cells_in b.journal) name = may_begin w (book_of b) name (passed _ _ (rw (← c.self.view_is) at c.in_ok-check_begin.ensures)) in
     sym (is_leaf-names_of name b.table.leaves) ∙ ap (λ (ls : List (List Bool)). is_leaf ls name) c.self.invariant.names ∙ may.leaf
 
 pub invariant_of-self-in-Err : goal.invariant_of-self-in-Err
@@ -82,11 +83,11 @@ invariant_of-self-in-Err g c =
     let o = b.opening in
     let h = b.history.entries in
     let name = c.args.name.now in
-    let may : MayBegin w (state_after w o h) h (cells_in b.journal) name = may_begin w (book_of b) name (passed _ _ (rw (← c.self.view_is) at c.in_ok-check_begin.ensures)) in
-    let few : length h < most_events = omega (arith, may.few) in
+    let may : MayBegin b.history.kept w (state_after w o h) h (cells_in b.journal) name = may_begin w (book_of b) name (passed _ _ (rw (← c.self.view_is) at c.in_ok-check_begin.ensures)) in
+    let few : length h < most_events b.history.kept = omega (arith, may.few, begin-less b.history.kept) in
     let number = c.next_number-number.result in
     let next : number ≡ (state_after w o h).begun + 1 = c.next_number-number.ensures ∙ ap (λ n. n + 1) (c.in_ok-reserve.ensures.begun ∙ c.self.invariant.begun) in
-    let step = begin_step w o h c.self.invariant.legal may.going (cells_in b.journal) number name may next in
+    let step = begin_step w o h c.self.invariant.legal may.going b.history.kept (cells_in b.journal) number name may next in
     inside-undone g.D.LogDisk.drive w o b c.self.invariant may.going (Arc Bucket Global) c.fold.new.self c.reserve.new.self o (c.len.result + 2) c.in-Err.undone _ c.fold.new.commit few step
     c.in_ok-reserve-2.ensures.ok refl (omega (arith, c.len.ensures, ap length c.in_ok-reserve.ensures.splits)) c.in-Err.ensures.err c.in_ok-reserve.ensures.splits c.in_ok-reserve.ensures.begun c.in-Err.ensures.told
 
@@ -97,11 +98,11 @@ returns-in-Err-clause-any_moment g c =
     let o = b.opening in
     let h = b.history.entries in
     let name = c.args.name.now in
-    let may : MayBegin w (state_after w o h) h (cells_in b.journal) name = may_begin w (book_of b) name (passed _ _ (rw (← c.self.view_is) at c.in_ok-check_begin.ensures)) in
-    let few : length h < most_events = omega (arith, may.few) in
+    let may : MayBegin b.history.kept w (state_after w o h) h (cells_in b.journal) name = may_begin w (book_of b) name (passed _ _ (rw (← c.self.view_is) at c.in_ok-check_begin.ensures)) in
+    let few : length h < most_events b.history.kept = omega (arith, may.few, begin-less b.history.kept) in
     let number = c.next_number-number.result in
     let next : number ≡ (state_after w o h).begun + 1 = c.next_number-number.ensures ∙ ap (λ n. n + 1) (c.in_ok-reserve.ensures.begun ∙ c.self.invariant.begun) in
-    let step = begin_step w o h c.self.invariant.legal may.going (cells_in b.journal) number name may next in
+    let step = begin_step w o h c.self.invariant.legal may.going b.history.kept (cells_in b.journal) number name may next in
     rw (← c.self.view_is) (λ none.
     subst (λ n. LeavesEither g.D.LogDisk.drive w o h (Begin n name) b.journal c.fold.new.commit.journal.now) next
     (moments-undone g.D.LogDisk.drive w o b c.self.invariant may.going (Arc Bucket Global) g.met.D.LogDisk.keeps_laws (c.len.result + 2) c.in-Err.undone _ c.fold.new.commit step
@@ -109,7 +110,7 @@ returns-in-Err-clause-any_moment g c =
 
 pub push-requires-clause-few : goal.push-requires-clause-few
 push-requires-clause-few g c =
-    omega (arith, c.in_ok-reserve.ensures.begun, c.self.invariant.begun, begun-le g.I.Index.WIDTH c.self.inside.opening c.self.inside.history.entries, c.self.invariant.opening.begun, c.self.invariant.few)
+    omega (arith, c.in_ok-reserve.ensures.begun, c.self.invariant.begun, begun-le g.I.Index.WIDTH c.self.inside.opening c.self.inside.history.entries, c.self.invariant.opening.begun, c.self.invariant.few, most-le c.self.inside.history.kept)
 
 pub invariant_of-self-2 : goal.invariant_of-self-2
 invariant_of-self-2 g c =
@@ -118,15 +119,15 @@ invariant_of-self-2 g c =
     let o = b.opening in
     let h = b.history.entries in
     let name = c.args.name.now in
-    let may : MayBegin w (state_after w o h) h (cells_in b.journal) name = may_begin w (book_of b) name (passed _ _ (rw (← c.self.view_is) at c.in_ok-check_begin.ensures)) in
+    let may : MayBegin b.history.kept w (state_after w o h) h (cells_in b.journal) name = may_begin w (book_of b) name (passed _ _ (rw (← c.self.view_is) at c.in_ok-check_begin.ensures)) in
     let number = c.next_number-number.result in
     let next : number ≡ (state_after w o h).begun + 1 = c.next_number-number.ensures ∙ ap (λ n. n + 1) (c.in_ok-reserve.ensures.begun ∙ c.self.invariant.begun) in
-    let step = begin_step w o h c.self.invariant.legal may.going (cells_in b.journal) number name may next in
+    let step = begin_step w o h c.self.invariant.legal may.going b.history.kept (cells_in b.journal) number name may next in
     let book : IsBook g.D.LogDisk.drive w (book_of b) = rw (← c.self.view_is) at c.keep.ensures in
     let it = taken g.D.LogDisk.drive w o b c.self.invariant may.going (c.len.result + 2) _ c.fold.new.commit step c.in_ok-reserve-2.ensures.ok refl c.in-Ok.ensures.told in
     let begun : c.reserve.new.self.begun ≡ b.splits.begun = c.in_ok-reserve.ensures.begun in
     let same : number ≡ b.splits.begun + 1 = c.next_number-number.ensures ∙ ap (λ n. n + 1) begun in
-    inside-begin g.D.LogDisk.drive w o b _ c.self.invariant may.going it.keeps it.since name _ may.few may.room book.stands.are_leaves book.stands.rows c.in-Ok.ensures.folds
+    inside-begin g.D.LogDisk.drive w o b _ c.self.invariant may.going it.keeps it.since it.kept name _ may.few may.room book.stands.are_leaves book.stands.rows c.in-Ok.ensures.folds
     (both_true may.leaf (le-leb (length name + w) 64 may.short)) may.free (it.entries ∙ ap (λ n. h ++ Begin n name ∷ []) same) (omega (arith, it.room, c.len.ensures, ap length c.in_ok-reserve.ensures.splits))
     (ap (λ (t : TableView). t.world) c.in-Ok.ensures.rest)
     (c.push.ensures.splits ∙ (λ i. c.in_ok-reserve.ensures.splits i ++ record { number = begun i + 1; name = name } ∷ []))
@@ -139,7 +140,7 @@ returns-clause-ticket g c =
     let o = b.opening in
     let h = b.history.entries in
     let name = c.args.name.now in
-    let may : MayBegin w (state_after w o h) h (cells_in b.journal) name = may_begin w (book_of b) name (passed _ _ (rw (← c.self.view_is) at c.in_ok-check_begin.ensures)) in
+    let may : MayBegin b.history.kept w (state_after w o h) h (cells_in b.journal) name = may_begin w (book_of b) name (passed _ _ (rw (← c.self.view_is) at c.in_ok-check_begin.ensures)) in
     let book : IsBook g.D.LogDisk.drive w (book_of b) = rw (← c.self.view_is) at c.keep.ensures in
     record { short = may.short; under = folded-under name b.table.leaves _ _ book.stands.are_leaves c.in-Ok.ensures.folds }
 
@@ -153,7 +154,7 @@ returns-in-Err-clause-err g c =
     let o = b.opening in
     let h = b.history.entries in
     let name = c.args.name.now in
-    let may : MayBegin w (state_after w o h) h (cells_in b.journal) name = may_begin w (book_of b) name (passed _ _ (rw (← c.self.view_is) at c.in_ok-check_begin.ensures)) in
+    let may : MayBegin b.history.kept w (state_after w o h) h (cells_in b.journal) name = may_begin w (book_of b) name (passed _ _ (rw (← c.self.view_is) at c.in_ok-check_begin.ensures)) in
     let next : c.next_number-number.result ≡ (state_after w o h).begun + 1 = c.next_number-number.ensures ∙ ap (λ n. n + 1) (c.in_ok-reserve.ensures.begun ∙ c.self.invariant.begun) in
     let it =
     refused-undone g.D.LogDisk.drive w o b c.self.invariant may.going (Arc Bucket Global) c.fold.new.self (c.len.result + 2) c.cells-cell.result c.in-Err.undone _ c.fold.new.commit
@@ -167,10 +168,10 @@ returns-clause-ok g c =
     let o = b.opening in
     let h = b.history.entries in
     let name = c.args.name.now in
-    let may : MayBegin w (state_after w o h) h (cells_in b.journal) name = may_begin w (book_of b) name (passed _ _ (rw (← c.self.view_is) at c.in_ok-check_begin.ensures)) in
+    let may : MayBegin b.history.kept w (state_after w o h) h (cells_in b.journal) name = may_begin w (book_of b) name (passed _ _ (rw (← c.self.view_is) at c.in_ok-check_begin.ensures)) in
     let number = c.next_number-number.result in
     let next : number ≡ (state_after w o h).begun + 1 = c.next_number-number.ensures ∙ ap (λ n. n + 1) (c.in_ok-reserve.ensures.begun ∙ c.self.invariant.begun) in
-    let step = begin_step w o h c.self.invariant.legal may.going (cells_in b.journal) number name may next in
+    let step = begin_step w o h c.self.invariant.legal may.going b.history.kept (cells_in b.journal) number name may next in
     let it = taken g.D.LogDisk.drive w o b c.self.invariant may.going (c.len.result + 2) _ c.fold.new.commit step c.in_ok-reserve-2.ensures.ok refl c.in-Ok.ensures.told in
     rw (← c.self.view_is) (record { entries = it.entries; number_is = next; name_is = refl; folds = c.in-Ok.ensures.folds })
 
@@ -179,7 +180,7 @@ returns-clause-book g c =
     record {
       before = c.keep.ensures;
       after = c.keep-2.ensures;
-      origin = rw (← c.self.view_is) (record { opening = refl; bucket = ap (λ (t : TableView). t.size) c.in-Ok.ensures.rest; log = c.in-Ok.ensures.told.ends.since });
+      origin = rw (← c.self.view_is) (record { opening = refl; bucket = ap (λ (t : TableView). t.size) c.in-Ok.ensures.rest; log = c.in-Ok.ensures.told.ends.since; kept = ap (λ (v : Events). v.kept) c.in-Ok.ensures.told.ends.events ∙ ap (λ (v : Events). v.kept) c.in_ok-reserve-2.ensures.ok });
     }
 
 pub returns-in_err-check_begin-clause-refused : goal.returns-in_err-check_begin-clause-refused
@@ -211,19 +212,19 @@ returns-in_err-reserve-2-clause-refused g c = no_memory IsMemoryOrDisk _ _ (inl 
 pub returns-in_err-reserve-2-clause-err : goal.returns-in_err-reserve-2-clause-err
 returns-in_err-reserve-2-clause-err g c =
     let b = c.self.inside in
-    leaves-memory g.D.LogDisk.drive (lost.Begin (next_number g.I.Index.WIDTH c.args.self.now) c.args.name.now) _ _ ((λ i. record { leaves = b.table.leaves; opening = b.opening; entries = (c.in_err-reserve-2.ensures.err i).entries; bucket = b.table.size; log = b.journal }) ∙ c.self.view_is) c.from_residual-in_err-reserve-2.result c.from_residual-in_err-reserve-2.ensures.1
+    leaves-memory g.D.LogDisk.drive (lost.Begin (next_number g.I.Index.WIDTH c.args.self.now) c.args.name.now) _ _ ((λ i. record { leaves = b.table.leaves; opening = b.opening; entries = (c.in_err-reserve-2.ensures.err i).entries; bucket = b.table.size; log = b.journal; kept = (c.in_err-reserve-2.ensures.err i).kept }) ∙ c.self.view_is) c.from_residual-in_err-reserve-2.result c.from_residual-in_err-reserve-2.ensures.1
 
 pub returns-in_err-reserve-2-clause-book : goal.returns-in_err-reserve-2-clause-book
 returns-in_err-reserve-2-clause-book g c =
     let b = c.self.inside in
-    same_books g.D.LogDisk.drive g.I.Index.WIDTH _ _ ((λ i. record { leaves = b.table.leaves; opening = b.opening; entries = (c.in_err-reserve-2.ensures.err i).entries; bucket = b.table.size; log = b.journal }) ∙ c.self.view_is) c.keep.ensures
+    same_books g.D.LogDisk.drive g.I.Index.WIDTH _ _ ((λ i. record { leaves = b.table.leaves; opening = b.opening; entries = (c.in_err-reserve-2.ensures.err i).entries; bucket = b.table.size; log = b.journal; kept = (c.in_err-reserve-2.ensures.err i).kept }) ∙ c.self.view_is) c.keep.ensures
 
 pub returns-in-Err-clause-book : goal.returns-in-Err-clause-book
 returns-in-Err-clause-book g c =
     record {
       before = c.keep.ensures;
       after = c.keep-in-Err.ensures;
-      origin = rw (← c.self.view_is) (record { opening = refl; bucket = ap (λ (t : TableView). t.size) c.in-Err.ensures.err; log = since-undone g.D.LogDisk.drive (Arc Bucket Global) _ c.in-Err.undone _ c.fold.new.commit refl c.in-Err.ensures.told });
+      origin = rw (← c.self.view_is) (record { opening = refl; bucket = ap (λ (t : TableView). t.size) c.in-Err.ensures.err; log = since-undone g.D.LogDisk.drive (Arc Bucket Global) _ c.in-Err.undone _ c.fold.new.commit refl c.in-Err.ensures.told; kept = kind-undone g.D.LogDisk.drive (Arc Bucket Global) (record c.self.inside.history { room = c.len.result + 2 }) c.in-Err.undone _ c.fold.new.commit c.in_ok-reserve-2.ensures.ok c.in-Err.ensures.told });
     }
 
 pub returns-clause-refused : goal.returns-clause-refused
@@ -236,10 +237,10 @@ returns-clause-any_moment g c =
     let o = b.opening in
     let h = b.history.entries in
     let name = c.args.name.now in
-    let may : MayBegin w (state_after w o h) h (cells_in b.journal) name = may_begin w (book_of b) name (passed _ _ (rw (← c.self.view_is) at c.in_ok-check_begin.ensures)) in
+    let may : MayBegin b.history.kept w (state_after w o h) h (cells_in b.journal) name = may_begin w (book_of b) name (passed _ _ (rw (← c.self.view_is) at c.in_ok-check_begin.ensures)) in
     let number = c.next_number-number.result in
     let next : number ≡ (state_after w o h).begun + 1 = c.next_number-number.ensures ∙ ap (λ n. n + 1) (c.in_ok-reserve.ensures.begun ∙ c.self.invariant.begun) in
-    let step = begin_step w o h c.self.invariant.legal may.going (cells_in b.journal) number name may next in
+    let step = begin_step w o h c.self.invariant.legal may.going b.history.kept (cells_in b.journal) number name may next in
     let it = taken g.D.LogDisk.drive w o b c.self.invariant may.going (c.len.result + 2) _ c.fold.new.commit step c.in_ok-reserve-2.ensures.ok refl c.in-Ok.ensures.told in
     rw (← c.self.view_is) (λ none. subst (λ n. LeavesEither g.D.LogDisk.drive w o h (Begin n name) b.journal c.fold.new.commit.journal.now) next it.moments)
 

@@ -21,7 +21,7 @@ returns-in-None g c =
     let b = c.self.inside in
     let name = ap (λ (os : List OpenSplit). split_name os number) (sym c.self.invariant.splits) ∙ sym c.name.ensures ∙ c.in-None.is in
     rw (← c.self.view_is)
-    (refused_later (end_refusal (cells_in b.journal) b.history.entries) _ (Err (NotOpen number)) (passed {A = Unit {0}} _ tt (rw (← c.self.view_is) at c.in_ok-check_end.ensures))
+    (refused_later (end_refusal b.history.kept (cells_in b.journal) b.history.entries) _ (Err (NotOpen number)) (passed {A = Unit {0}} _ tt (rw (← c.self.view_is) at c.in_ok-check_end.ensures))
     (told_only (Unit {0}) _ (NotOpen number) (ap (unless_open number) name)))
 
 pub returns-in-Some : goal.returns-in-Some
@@ -30,5 +30,5 @@ returns-in-Some g c =
     let b = c.self.inside in
     let name = ap (λ (os : List OpenSplit). split_name os number) (sym c.self.invariant.splits) ∙ sym c.name.ensures ∙ c.in-Some.is in
     rw (← c.self.view_is)
-    (refused_later (end_refusal (cells_in b.journal) b.history.entries) _ (Ok tt) (passed {A = Unit {0}} _ tt (rw (← c.self.view_is) at c.in_ok-check_end.ensures))
+    (refused_later (end_refusal b.history.kept (cells_in b.journal) b.history.entries) _ (Ok tt) (passed {A = Unit {0}} _ tt (rw (← c.self.view_is) at c.in_ok-check_end.ensures))
     (done_only _ tt (ap (unless_open number) name)))

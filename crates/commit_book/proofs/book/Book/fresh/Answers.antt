@@ -1,6 +1,7 @@
 use Rattle.std.proofs.Common.{[], refl, sym, ap, ◌∙◌, subst, arith}
 use Rattle.plain_list.specs.State.{State, ComesBySplits}
 use Rattle.plain_list.proofs.BySplits.{come-first}
+use Rattle.commit_book.specs.Events.{Events}
 use Rattle.commit_book.proofs.EarlyReturns.{never_ok}
 use Rattle.commit_book.proofs.FirstBooks.{inside-first}
 use Rattle.commit_book.proofs.book.Book.fresh.Goals as goal
@@ -14,7 +15,7 @@ invariant_of-result g c =
       begun = omega (arith, ap (λ (s : State). s.begun) same);
       comes = subst (ComesBySplits g.I.Index.WIDTH) (sym (ap (λ (s : State). s.leaves) same ∙ c.in_ok-table.ensures.leaves)) (come-first g.I.Index.WIDTH);
     })
-    c.new.ensures (sym (ap (λ (s : State). s.world) same)) (sym (ap (λ (s : State). s.leaves) same))
+    (ap (λ (v : Events). v.entries) c.empty.ensures) (sym (ap (λ (s : State). s.world) same)) (sym (ap (λ (s : State). s.leaves) same))
     (c.after.ensures ∙ (λ i. record { splits = []; begun = sym (ap (λ (s : State). s.begun) same) i; room = 0 }))
     (rw c.none.ensures refl)
 

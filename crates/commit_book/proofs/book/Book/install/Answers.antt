@@ -11,11 +11,12 @@ use Rattle.point_table.specs.Divisions.{Divides}
 use Rattle.point_table.specs.TableView.{TableView}
 use Rattle.commit_book.specs.BookInside.{book_of}
 use Rattle.commit_book.specs.Refusals.{IsMemoryOrDisk}
+use Rattle.commit_book.specs.Events.{Events}
 use Rattle.commit_book.proofs.BookStates.{inside-install}
 use Rattle.point_table.proofs.Dividing.{names_of-divided}
 use Rattle.commit_book.proofs.RefusalLemmas.{MayInstall, may_install, Based, has_base-leaf, is_open-name, passed}
 use Rattle.commit_book.proofs.SplitCells.{install_step, some_open}
-use Rattle.commit_book.proofs.Undone.{can_step, inside-undone, moments-undone, refused-undone, refused_freely, since-undone, taken}
+use Rattle.commit_book.proofs.Undone.{can_step, inside-undone, kind-undone, moments-undone, refused-undone, refused_freely, since-undone, taken}
 use Rattle.commit_book.proofs.EarlyReturns.{never_ok, same_books, hands_on, done_freely, calm-install, leaves-checked}
 use Rattle.commit_book.proofs.book.Book.install.Goals as goal
 
@@ -102,7 +103,7 @@ invariant_of-self-2 g c =
     let it = taken g.D.LogDisk.drive w o b c.self.invariant may.may.going b.history.room _ c.divide.new.commit step refl refl c.in_default.ensures.told in
     let open_here : split_name b.splits.splits p.number ≡ Some p.name = ap (λ (os : List OpenSplit). split_name os p.number) c.self.invariant.splits ∙ open_one in
     let divides : Divides w p.name b.table.leaves c.divide.new.self.leaves = subst (λ (nm : List Bool). Divides w nm b.table.leaves c.divide.new.self.leaves) c.name-name.ensures.name c.in_default.ensures.divides in
-    inside-install g.D.LogDisk.drive w o b _ c.self.invariant may.may.going it.keeps it.since p.number p.name may.may.few c.len-told.ensures.leaves divides open_here
+    inside-install g.D.LogDisk.drive w o b _ c.self.invariant may.may.going it.keeps it.since it.kept p.number p.name may.may.few c.len-told.ensures.leaves divides open_here
     (ap names_of divides.leaves ∙ names_of-divided w p.name divides.leaf.bucket.rows b.table.leaves)
     (it.entries ∙ ap (λ n. h ++ Install n ∷ []) number) (omega (arith, it.room)) (ap (λ (t : TableView). t.world) c.in_default.ensures.rest)
     (c.remove.ensures.splits ∙ ap (λ n. without_number n b.splits.splits) number) c.remove.ensures.begun
@@ -126,7 +127,7 @@ returns-clause-book g c =
     record {
       before = c.keep.ensures;
       after = c.keep-2.ensures;
-      origin = rw (← c.self.view_is) (record { opening = refl; bucket = ap (λ (t : TableView). t.size) c.in_default.ensures.rest; log = c.in_default.ensures.told.ends.since });
+      origin = rw (← c.self.view_is) (record { opening = refl; bucket = ap (λ (t : TableView). t.size) c.in_default.ensures.rest; log = c.in_default.ensures.told.ends.since; kept = ap (λ (v : Events). v.kept) c.in_default.ensures.told.ends.events });
     }
 
 pub returns-in_err-check_install-clause-refused : goal.returns-in_err-check_install-clause-refused
@@ -144,7 +145,7 @@ returns-in-Err-clause-book g c =
     record {
       before = c.keep.ensures;
       after = c.keep-in-Err.ensures;
-      origin = rw (← c.self.view_is) (record { opening = refl; bucket = ap (λ (t : TableView). t.size) c.in-Err.ensures.err; log = since-undone g.D.LogDisk.drive (Unit {0}) _ c.in-Err.undone _ c.divide.new.commit refl c.in-Err.ensures.told });
+      origin = rw (← c.self.view_is) (record { opening = refl; bucket = ap (λ (t : TableView). t.size) c.in-Err.ensures.err; log = since-undone g.D.LogDisk.drive (Unit {0}) _ c.in-Err.undone _ c.divide.new.commit refl c.in-Err.ensures.told; kept = kind-undone g.D.LogDisk.drive (Unit {0}) c.self.inside.history c.in-Err.undone _ c.divide.new.commit refl c.in-Err.ensures.told });
     }
 
 pub returns-clause-refused : goal.returns-clause-refused

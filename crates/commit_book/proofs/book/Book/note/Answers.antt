@@ -6,6 +6,7 @@ use Rattle.kept_log.specs.Journal.{KeepsIn}
 use Rattle.commit_book.specs.Events.{Events}
 use Rattle.commit_book.proofs.BookStates.{inside-call, steps_on}
 use Rattle.commit_book.proofs.BookSteps.{query_keeps}
+use Rattle.commit_book.proofs.Limits.{most-le}
 use Rattle.commit_book.proofs.RefusalLemmas.{MayCall, may_call, passed}
 use Rattle.plain_list.proofs.SplitHistories.{open-le}
 use Rattle.commit_book.proofs.Undone.{inside-reserved}
@@ -17,12 +18,12 @@ use Rattle.commit_book.proofs.book.Book.note.Goals as goal
 pub overflow_add-len : goal.overflow_add-len
 overflow_add-len g c =
     let h = c.self.inside.history.entries in
-    omega (arith, c.len.ensures, ap length c.self.invariant.splits, open-le g.I.Index.WIDTH c.self.inside.opening h, ap length c.self.invariant.opening.rests, c.self.invariant.few)
+    omega (arith, c.len.ensures, ap length c.self.invariant.splits, open-le g.I.Index.WIDTH c.self.inside.opening h, ap length c.self.invariant.opening.rests, c.self.invariant.few, most-le c.self.inside.history.kept)
 
 pub reserve-requires : goal.reserve-requires
 reserve-requires g c =
     let h = c.self.inside.history.entries in
-    omega (arith, c.len.ensures, ap length c.self.invariant.splits, open-le g.I.Index.WIDTH c.self.inside.opening h, ap length c.self.invariant.opening.rests, c.self.invariant.few)
+    omega (arith, c.len.ensures, ap length c.self.invariant.splits, open-le g.I.Index.WIDTH c.self.inside.opening h, ap length c.self.invariant.opening.rests, c.self.invariant.few, most-le c.self.inside.history.kept)
 
 pub invariant_of-self-2 : goal.invariant_of-self-2
 invariant_of-self-2 g c =
@@ -32,12 +33,13 @@ invariant_of-self-2 g c =
     let h = c.self.inside.history.entries in
     let op = c.args.op.now in
     let e : Entry = Call c.args.session c.args.row op in
-    let may : MayCall h = may_call h c.self.invariant.few (passed _ _ (rw (← c.self.view_is) at c.in_ok-check_call.ensures)) in
+    let may : MayCall c.self.inside.history.kept h = may_call c.self.inside.history.kept h c.self.invariant.few (passed _ _ (rw (← c.self.view_is) at c.in_ok-check_call.ensures)) in
     let steps = steps_on w o h e c.self.invariant.legal (has_failed-none h may.going) refl in
     let entries : c.push.new.self.entries ≡ h ++ e ∷ [] = ap (λ (v : Events). v.entries) c.push.ensures ∙ ap (λ (v : Events). v.entries ++ e ∷ []) c.in_ok-reserve.ensures.ok in
     let room : length c.self.inside.splits.splits ≤ c.push.new.self.room = omega (arith, ap (λ (v : Events). v.room) c.push.ensures, ap (λ (v : Events). v.room) c.in_ok-reserve.ensures.ok, c.len.ensures) in
     let kept = keeps-query drive w o h c.args.session c.args.row op c.self.inside.journal c.requires steps.legal c.self.invariant.on_log in
-    inside-call drive w o c.self.inside _ c.self.invariant may.going (subst (λ (g : List Entry). KeepsIn drive w o g c.self.inside.journal) (sym entries) kept) (since-same c.self.inside.journal) c.args.session c.args.row op may.few entries room
+    inside-call drive w o c.self.inside _ c.self.invariant may.going (subst (λ (g : List Entry). KeepsIn drive w o g c.self.inside.journal) (sym entries) kept) (since-same c.self.inside.journal)
+    (ap (λ (v : Events). v.kept) c.push.ensures ∙ ap (λ (v : Events). v.kept) c.in_ok-reserve.ensures.ok) c.args.session c.args.row op may.few entries room
     (sym (query_keeps op c.self.inside.table.world c.requires)) refl refl
 
 pub returns-in_err-check_call-clause-refused : goal.returns-in_err-check_call-clause-refused
@@ -55,12 +57,12 @@ returns-in_err-reserve-clause-refused g c = no_memory IsMemory _ _ refl (passed 
 pub returns-in_err-reserve-clause-err : goal.returns-in_err-reserve-clause-err
 returns-in_err-reserve-clause-err g c =
     let b = c.self.inside in
-    if_any c.from_residual-in_err-reserve.result _ ((λ i. record { leaves = b.table.leaves; opening = b.opening; entries = (c.in_err-reserve.ensures.err i).entries; bucket = b.table.size; log = b.journal }) ∙ c.self.view_is)
+    if_any c.from_residual-in_err-reserve.result _ ((λ i. record { leaves = b.table.leaves; opening = b.opening; entries = (c.in_err-reserve.ensures.err i).entries; bucket = b.table.size; log = b.journal; kept = (c.in_err-reserve.ensures.err i).kept }) ∙ c.self.view_is)
 
 pub returns-in_err-reserve-clause-book : goal.returns-in_err-reserve-clause-book
 returns-in_err-reserve-clause-book g c =
     let b = c.self.inside in
-    same_books g.D.LogDisk.drive g.I.Index.WIDTH _ _ ((λ i. record { leaves = b.table.leaves; opening = b.opening; entries = (c.in_err-reserve.ensures.err i).entries; bucket = b.table.size; log = b.journal }) ∙ c.self.view_is) c.keep.ensures
+    same_books g.D.LogDisk.drive g.I.Index.WIDTH _ _ ((λ i. record { leaves = b.table.leaves; opening = b.opening; entries = (c.in_err-reserve.ensures.err i).entries; bucket = b.table.size; log = b.journal; kept = (c.in_err-reserve.ensures.err i).kept }) ∙ c.self.view_is) c.keep.ensures
 
 pub returns-clause-ok : goal.returns-clause-ok
 returns-clause-ok g c =
@@ -81,14 +83,19 @@ returns-clause-book g c =
     record {
       before = c.keep.ensures;
       after = c.keep-2.ensures;
-      origin = rw (← c.self.view_is) (record { opening = refl; bucket = refl; log = since-same c.self.inside.journal });
+      origin = rw (← c.self.view_is) (record {
+        opening = refl;
+        bucket = refl;
+        log = since-same c.self.inside.journal;
+        kept = ap (λ (v : Events). v.kept) c.push.ensures ∙ ap (λ (v : Events). v.kept) c.in_ok-reserve.ensures.ok;
+      });
     }
 
 pub invariant_of-self : goal.invariant_of-self
 invariant_of-self g c = inside-reserved g.D.LogDisk.drive g.I.Index.WIDTH _ c.self.inside _ c.reserve.new.self _ c.self.invariant refl refl c.in_err-reserve.ensures.err c.self.invariant.room
 
 pub push-requires-clause-few : goal.push-requires-clause-few
-push-requires-clause-few g c = omega (arith, ap (λ (v : Events). length v.entries) c.in_ok-reserve.ensures.ok, c.self.invariant.few)
+push-requires-clause-few g c = omega (arith, ap (λ (v : Events). length v.entries) c.in_ok-reserve.ensures.ok, c.self.invariant.few, most-le c.self.inside.history.kept)
 
 pub push-requires-clause-room : goal.push-requires-clause-room
 push-requires-clause-room g c = omega (arith, ap (λ (v : Events). v.room) c.in_ok-reserve.ensures.ok)

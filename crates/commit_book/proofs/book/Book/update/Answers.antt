@@ -16,10 +16,11 @@ use Rattle.commit_book.specs.Refusals.{IsMemoryOrDisk}
 use Rattle.commit_book.specs.Steps.{Takes, Loses}
 use Rattle.commit_book.specs.declared.steps.Step.{Step}
 use Rattle.commit_book.proofs.BookStates.{inside-call, steps_on}
+use Rattle.commit_book.proofs.Limits.{most-le}
 use Rattle.commit_book.proofs.RefusalLemmas.{passed}
 use Rattle.commit_book.proofs.SplitCells.{call_step, cell_there}
 use Rattle.plain_list.proofs.SplitHistories.{open-le}
-use Rattle.commit_book.proofs.Undone.{can_step, inside-reserved, inside-undone, moments-undone, refused-undone, refused_freely, would_change, quiet_told, noted, since-undone, since-told}
+use Rattle.commit_book.proofs.Undone.{can_step, inside-reserved, inside-undone, kind-quiet, kind-told, kind-undone, moments-undone, refused-undone, refused_freely, would_change, quiet_told, noted, since-undone, since-told}
 use Rattle.commit_book.proofs.EarlyReturns.{never_ok, same_books, hands_on, no_memory, done_freely, calm-update, leaves-checked, leaves-memory}
 use Rattle.commit_book.proofs.UpdateCalls.{may_update}
 use Rattle.commit_book.proofs.book.Book.update.Goals as goal
@@ -32,12 +33,12 @@ returns-in_err-check_update-clause-any_moment g c =
 pub overflow_add-len : goal.overflow_add-len
 overflow_add-len g c =
     let h = c.self.inside.history.entries in
-    omega (arith, c.len.ensures, ap length c.self.invariant.splits, open-le g.I.Index.WIDTH c.self.inside.opening h, ap length c.self.invariant.opening.rests, c.self.invariant.few)
+    omega (arith, c.len.ensures, ap length c.self.invariant.splits, open-le g.I.Index.WIDTH c.self.inside.opening h, ap length c.self.invariant.opening.rests, c.self.invariant.few, most-le c.self.inside.history.kept)
 
 pub reserve-requires : goal.reserve-requires
 reserve-requires g c =
     let h = c.self.inside.history.entries in
-    omega (arith, c.len.ensures, ap length c.self.invariant.splits, open-le g.I.Index.WIDTH c.self.inside.opening h, ap length c.self.invariant.opening.rests, c.self.invariant.few)
+    omega (arith, c.len.ensures, ap length c.self.invariant.splits, open-le g.I.Index.WIDTH c.self.inside.opening h, ap length c.self.invariant.opening.rests, c.self.invariant.few, most-le c.self.inside.history.kept)
 
 pub returns-in_err-reserve-clause-any_moment : goal.returns-in_err-reserve-clause-any_moment
 returns-in_err-reserve-clause-any_moment g c =
@@ -89,7 +90,7 @@ note_quiet-requires g c = λ none.
     let told = quiet_told (Takes g.D.LogDisk.drive) (Loses g.D.LogDisk.drive) (is_change (answer_of b.table.world c.args.op.now)) _ c.update.new.commit c.in-Ok.answer
     (sym (ap is_change c.in-Ok.ensures.ok.answer_is) ∙ none) c.in-Ok.ensures.told in
     let same : c.update.new.commit.history.now ≡ record b.history { room = c.len.result + 1 } = ap (λ (s : Step _). s.history.now) told ∙ c.in_ok-reserve.ensures.ok in
-    (omega (arith, ap (λ (v : Events). v.room) same), omega (arith, ap (λ (v : Events). length v.entries) same, c.self.invariant.few))
+    (omega (arith, ap (λ (v : Events). v.room) same), omega (arith, ap (λ (v : Events). length v.entries) same, c.self.invariant.few, most-le c.self.inside.history.kept))
 
 pub invariant_of-self-2 : goal.invariant_of-self-2
 invariant_of-self-2 g c =
@@ -106,7 +107,7 @@ invariant_of-self-2 g c =
     c.in-Ok.answer _ c.update.new.commit c.note_quiet.new.history
     (call_step w b.opening h c.self.invariant.legal may.call.going c.args.session c.args.row op) steps.legal refl c.in_ok-reserve.ensures.ok refl now
     (ap is_change c.in-Ok.ensures.ok.answer_is) c.in-Ok.ensures.told c.note_quiet.ensures.noted c.note_quiet.ensures.quiet in
-    inside-call g.D.LogDisk.drive w b.opening b _ c.self.invariant may.call.going it.keeps it.since c.args.session c.args.row op may.call.few it.entries (omega (arith, it.room, c.len.ensures))
+    inside-call g.D.LogDisk.drive w b.opening b _ c.self.invariant may.call.going it.keeps it.since it.kept c.args.session c.args.row op may.call.few it.entries (omega (arith, it.room, c.len.ensures))
     c.in-Ok.ensures.ok.changes.world (rw c.as_slice.ensures at c.in-Ok.ensures.ok.changes.bases) refl
 
 pub returns-clause-ok : goal.returns-clause-ok
@@ -180,12 +181,12 @@ returns-in_err-reserve-clause-refused g c = no_memory IsMemoryOrDisk _ _ (inl re
 pub returns-in_err-reserve-clause-err : goal.returns-in_err-reserve-clause-err
 returns-in_err-reserve-clause-err g c =
     let b = c.self.inside in
-    leaves-memory g.D.LogDisk.drive (lost.Call c.args.session c.args.row c.args.op.now) _ _ ((λ i. record { leaves = b.table.leaves; opening = b.opening; entries = (c.in_err-reserve.ensures.err i).entries; bucket = b.table.size; log = b.journal }) ∙ c.self.view_is) c.from_residual-in_err-reserve.result c.from_residual-in_err-reserve.ensures.1
+    leaves-memory g.D.LogDisk.drive (lost.Call c.args.session c.args.row c.args.op.now) _ _ ((λ i. record { leaves = b.table.leaves; opening = b.opening; entries = (c.in_err-reserve.ensures.err i).entries; bucket = b.table.size; log = b.journal; kept = (c.in_err-reserve.ensures.err i).kept }) ∙ c.self.view_is) c.from_residual-in_err-reserve.result c.from_residual-in_err-reserve.ensures.1
 
 pub returns-in_err-reserve-clause-book : goal.returns-in_err-reserve-clause-book
 returns-in_err-reserve-clause-book g c =
     let b = c.self.inside in
-    same_books g.D.LogDisk.drive g.I.Index.WIDTH _ _ ((λ i. record { leaves = b.table.leaves; opening = b.opening; entries = (c.in_err-reserve.ensures.err i).entries; bucket = b.table.size; log = b.journal }) ∙ c.self.view_is) c.keep.ensures
+    same_books g.D.LogDisk.drive g.I.Index.WIDTH _ _ ((λ i. record { leaves = b.table.leaves; opening = b.opening; entries = (c.in_err-reserve.ensures.err i).entries; bucket = b.table.size; log = b.journal; kept = (c.in_err-reserve.ensures.err i).kept }) ∙ c.self.view_is) c.keep.ensures
 
 pub returns-in-Err-clause-book : goal.returns-in-Err-clause-book
 returns-in-Err-clause-book g c =
@@ -193,7 +194,7 @@ returns-in-Err-clause-book g c =
     record {
       before = c.keep.ensures;
       after = c.keep-in-Err.ensures;
-      origin = rw (← c.self.view_is) (record { opening = refl; bucket = ap (λ (t : TableView). t.size) c.in-Err.ensures.err; log = since-undone g.D.LogDisk.drive Answer _ c.in-Err.undone _ c.update.new.commit refl told.1 });
+      origin = rw (← c.self.view_is) (record { opening = refl; bucket = ap (λ (t : TableView). t.size) c.in-Err.ensures.err; log = since-undone g.D.LogDisk.drive Answer _ c.in-Err.undone _ c.update.new.commit refl told.1; kept = kind-undone g.D.LogDisk.drive Answer (record c.self.inside.history { room = c.len.result + 1 }) c.in-Err.undone _ c.update.new.commit c.in_ok-reserve.ensures.ok told.1 });
     }
 
 pub returns-clause-refused : goal.returns-clause-refused
@@ -221,5 +222,8 @@ returns-clause-book g c =
         opening = refl;
         bucket = c.in-Ok.ensures.ok.changes.size;
         log = since-told g.D.LogDisk.drive (is_change (answer_of b.table.world c.args.op.now)) _ c.in-Ok.answer _ c.update.new.commit refl c.in-Ok.ensures.told;
+        kept =
+            kind-quiet (is_change c.in-Ok.answer) _ c.update.new.commit.history.now c.note_quiet.new.history c.note_quiet.ensures.noted c.note_quiet.ensures.quiet
+            ∙ kind-told g.D.LogDisk.drive (is_change (answer_of b.table.world c.args.op.now)) (record b.history { room = c.len.result + 1 }) c.in-Ok.answer _ c.update.new.commit c.in_ok-reserve.ensures.ok c.in-Ok.ensures.told;
       });
     }

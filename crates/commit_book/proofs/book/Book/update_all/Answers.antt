@@ -68,7 +68,8 @@ invariant_of-self-in-Ok g c =
     ap (λ (v : Events). v.entries) c.push_calls.ensures ∙ ap (λ (v : Events). v.entries ++ batch_calls c.args.session c.args.row ops) c.in_ok-reserve.ensures.ok in
     let room : length b.splits.splits ≤ c.push_calls.new.self.room =
     omega (arith, ap (λ (v : Events). v.room) c.push_calls.ensures, ap (λ (v : Events). v.room) c.in_ok-reserve.ensures.ok, batch_calls-length c.args.session c.args.row ops, c.len.ensures) in
-    inside-calls drive w o b _ c.self.invariant may.going (subst (λ (h : List Entry). KeepsIn drive w o h c.publish.new.journal) (sym entries) it.keeps) it.since c.args.session c.args.row ops may.few entries room
+    inside-calls drive w o b _ c.self.invariant may.going (subst (λ (h : List Entry). KeepsIn drive w o h c.publish.new.journal) (sym entries) it.keeps) it.since
+    (ap (λ (v : Events). v.kept) c.push_calls.ensures ∙ ap (λ (v : Events). v.kept) c.in_ok-reserve.ensures.ok) c.args.session c.args.row ops may.few entries room
     (ap (λ (t : TableView). t.world) c.in-Ok.ensures.ok.0 ∙ plan.drafts.changes.world)
     (ap (λ (t : TableView). bases_of b.splits.splits t.leaves) c.in-Ok.ensures.ok.0 ∙ plan.drafts.changes.bases) refl
 
@@ -145,7 +146,8 @@ invariant_of-self-in-Err-Disk g c =
     ∙ flagged_fails-lost cell before c.args.session c.args.row ops in
     let entries : c.push_fails.new.self.entries ≡ b.history.entries ++ batch_fails cell before c.args.session c.args.row ops =
     ap (λ (v : Events). v.entries) c.push_fails.ensures ∙ (λ i. (c.in_ok-reserve.ensures.ok i).entries ++ fails i) in
-    inside-fails drive w o b _ c.self.invariant may.going (subst (λ (h : List Entry). KeepsIn drive w o h c.publish.new.journal) (sym entries) it.keeps) it.since c.args.session c.args.row ops may.few cell before it.change entries
+    inside-fails drive w o b _ c.self.invariant may.going (subst (λ (h : List Entry). KeepsIn drive w o h c.publish.new.journal) (sym entries) it.keeps) it.since
+    (ap (λ (v : Events). v.kept) c.push_fails.ensures ∙ ap (λ (v : Events). v.kept) c.in_ok-reserve.ensures.ok) c.args.session c.args.row ops may.few cell before it.change entries
     c.in-Err-Disk.ensures.err refl
 
 pub returns-in-Err-Disk-clause-err : goal.returns-in-Err-Disk-clause-err

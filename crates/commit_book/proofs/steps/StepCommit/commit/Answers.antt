@@ -14,7 +14,7 @@ returns-in-Err-clause-lost g c = λ _.
     record {
       same = record { history = refl; journal = refl };
       ends = record {
-        events = c.push-in-Err.ensures ∙ (λ i. record { entries = before.entries ++ Fail (missed.named i) step ∷ []; room = before.room - 1 });
+        events = c.push-in-Err.ensures ∙ (λ i. record before { entries = before.entries ++ Fail (missed.named i) step ∷ []; room = before.room - 1 });
         keeps = λ w s is kept.
             subst (λ n. KeepsIn drive w s (before.entries ++ Fail n step ∷ []) new) missed.named
             (missed.keeps w s before.entries (entry_of step) step (record { legal = is.legal; cells = is.cells ∙ c.in-Some.ensures }) c.in-Some.ensures kept);
