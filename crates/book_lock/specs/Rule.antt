@@ -39,7 +39,7 @@ newcomer origin = seat_view [] [] [] origin all_parts false
 
 -- The origin of no value.
 abbrev pub no_origin : Origin
-no_origin = record { world = []; leaves = []; begun = 0; log = None; bucket = 0 }
+no_origin = record { world = []; leaves = []; begun = 0; log = None; bucket = 0; kept = true }
 
 -- A seat that was joined to another one.
 abbrev pub spent : View

@@ -14,6 +14,8 @@ pub struct Origin {
     pub log: Option<LogStart>,
     /// The size of a bucket.
     pub bucket: u64,
+    /// Whether the list of entries is kept.
+    pub kept: bool,
 }
 
 /// A log as it was opened.
