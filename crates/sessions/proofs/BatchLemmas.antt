@@ -8,11 +8,9 @@ use Rattle.plain_list.specs.declared.ops.Op.{Op}
 use Rattle.plain_list.specs.declared.entries.Entry.{Entry}
 use Rattle.plain_list.specs.declared.entries.Entry.TheVariants.{Call, Fail}
 use Rattle.plain_list.specs.declared.entries.Lost.TheVariants as lost
-use Rattle.plain_list.specs.Answer.{FitsOp, answer_of, after_of, is_change}
+use Rattle.plain_list.specs.Answer.{answer_of, after_of, is_change}
 use Rattle.plain_list.specs.Batch.{answers_to, batch_calls, batch_fails}
 use Rattle.plain_list.specs.History.{world_after, call_count, failed_cell}
-use Rattle.plain_list.specs.State.{state_after}
-use Rattle.plain_list.specs.Size.{full_leaf}
 use Rattle.plain_list.specs.World.{World}
 use Rattle.disk_trait.specs.Drive.{Drive}
 use Rattle.kept_log.specs.Journal.{cells_in}
@@ -25,8 +23,8 @@ use Rattle.commit_book.specs.declared.faults.BookFault.{BookFault}
 use Rattle.commit_book.specs.declared.faults.BookFault.TheVariants as book
 use Rattle.book_lock.specs.Pass.{Known}
 use Rattle.book_lock.specs.declared.origin.Origin.{Origin}
-use Rattle.sessions.specs.Batches.{Applied, BatchLeaves, EndsNone, HasDoneAll, HasLost, IsApplied, MayFail, MayNoteAll, batch_cause, has_added_all, has_given_all, has_noted}
-use Rattle.sessions.specs.Calls.{IsCallFault, call_fault, next_full}
+use Rattle.sessions.specs.Batches.{Applied, BatchLeaves, EndsNone, HasLost, IsApplied, MayFail, MayNoteAll, batch_cause, has_added_all, has_given_all}
+use Rattle.sessions.specs.Calls.{IsCallFault, call_fault}
 use Rattle.sessions.specs.Shared.{origin_of}
 use Rattle.sessions.specs.Splits.{SamePass}
 use Rattle.sessions.specs.Steps.{WasTaken, cells_at, has_seen}
@@ -100,10 +98,10 @@ all-seen old took back entries off took_is entries_is back_is =
     ∙ (λ i. record old { seen = append-nil took.seen i; own = append-nil old.own i })
 
 -- No cause of a batch is one that a call doesn't know.
-batch-causes : (ops : List Op) (cells : ℕ) (before : List Entry) → AreCauses IsCallFault (batch_cause ops cells before)
-batch-causes ops cells before =
+batch-causes : (origin : Origin) (ops : List Op) (cells : ℕ) (before : List Entry) → AreCauses IsCallFault (batch_cause origin ops cells before)
+batch-causes origin ops cells before =
     causes-first IsCallFault (closed_refusal before) _ (causes-map IsCallFault book.Closed (failed_cell before) (λ n. tt))
-    (causes-first IsCallFault _ _ (causes-if IsCallFault (nat_lt most_events (length before + length ops)) book.HistoryFull tt) (causes-if IsCallFault (nat_lt most_cells (cells + most_changes ops)) book.LogFull tt))
+    (causes-first IsCallFault _ _ (causes-if IsCallFault (nat_lt (most_events origin.kept) (length before + length ops)) book.HistoryFull tt) (causes-if IsCallFault (nat_lt most_cells (cells + most_changes ops)) book.LogFull tt))
 
 disk-fails : (fault : BookFault) → IsDisk fault → MayFail (call_fault fault)
 disk-fails (book.Disk cell) is = tt
@@ -163,12 +161,12 @@ module _ {D : Type 0} (drive : D → Drive) (w : ℕ) (b mid : BookView D) (old 
   cells-is : cells_in b.log ≡ cells_at old.origin took.seen
   cells-is = cells-at drive w b books.before ∙ (λ i. cells_at (was.origin i) (was.entries i))
 
-  refused-at : (r : Result BatchDone BookFault) → IsRefusedBy IsMemoryOrDisk (batch_refusal b ops) r → IsRefusedBy IsMemoryOrDisk (batch_cause ops (cells_at old.origin took.seen) took.seen) r
-  refused-at r refused = subst (λ (z : ℕ × List Entry). IsRefusedBy IsMemoryOrDisk (batch_cause ops z.0 z.1) r) (λ i. (cells-is i, was.entries i)) refused
+  refused-at : (r : Result BatchDone BookFault) → IsRefusedBy IsMemoryOrDisk (batch_refusal b ops) r → IsRefusedBy IsMemoryOrDisk (batch_cause old.origin ops (cells_at old.origin took.seen) took.seen) r
+  refused-at r refused = subst (λ (o : Option BookFault). IsRefusedBy IsMemoryOrDisk o r) (λ i. batch_cause (was.origin i) ops (cells-is i) (was.entries i)) refused
 
   -- the fault is one that a call knows
   pub batch-fault : (fault : BookFault) → IsRefusedBy {A = BatchDone} IsMemoryOrDisk (batch_refusal b ops) (Err fault) → IsCallFault fault
-  batch-fault fault refused = refused-cause BatchDone IsMemoryOrDisk IsCallFault (batch_cause ops (cells_in b.log) b.entries) fault (batch-causes ops (cells_in b.log) b.entries) (free-call fault) refused
+  batch-fault fault refused = refused-cause BatchDone IsMemoryOrDisk IsCallFault (batch_cause (origin_of drive b) ops (cells_in b.log) b.entries) fault (batch-causes (origin_of drive b) ops (cells_in b.log) b.entries) (free-call fault) refused
 
   added-all : (es : List Entry) → mid.entries ≡ b.entries ++ es → back ≡ has_given_all took mid.entries → back ≡ has_added_all old took.seen es
   added-all es is given = all-added old took back mid.entries es was.off was.took_is (behind es is) given
@@ -208,7 +206,7 @@ module _ {D : Type 0} (drive : D → Drive) (w : ℕ) (b mid : BookView D) (old 
         before = took.seen;
         later = was.later;
         alone = was.alone;
-        answered = applied-none (batch_cause ops (cells_at old.origin took.seen) took.seen) d (refused-at (Ok d) refused);
+        answered = applied-none (batch_cause old.origin ops (cells_at old.origin took.seen) took.seen) d (refused-at (Ok d) refused);
         leaves = (
           added-all (batch_calls session row ops) ok.entries given,
           record {
@@ -226,7 +224,7 @@ module _ {D : Type 0} (drive : D → Drive) (w : ℕ) (b mid : BookView D) (old 
     before = took.seen;
     later = was.later;
     alone = was.alone;
-    answered = applied-some (batch_cause ops (cells_at old.origin took.seen) took.seen) fault (refused-at (Err fault) refused);
+    answered = applied-some (batch_cause old.origin ops (cells_at old.origin took.seen) took.seen) fault (refused-at (Err fault) refused);
     leaves = left-all fault (batch-fault fault refused) err given;
   }
 

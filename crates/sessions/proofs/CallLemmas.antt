@@ -76,11 +76,11 @@ query-quiet world (Within region) is = listed-quiet _ (members_in region (places
 query-quiet world (Near at k) is = refl
 
 -- so the log is never in its way
-query-cause : (origin : Origin) (op : Op) (cells : ℕ) (before : List Entry) → IsQuery op → call_cause origin op cells before ≡ call_refusal before
+query-cause : (origin : Origin) (op : Op) (cells : ℕ) (before : List Entry) → IsQuery op → call_cause origin op cells before ≡ call_refusal origin.kept before
 query-cause origin op cells before is =
     let quiet : ((cells == most_cells) && is_change (answer_of (world_after origin.world before) op)) ≡ false =
     and_right (cells == most_cells) (is_change (answer_of (world_after origin.world before) op)) (query-quiet (world_after origin.world before) op is) in
-    (λ i. first_of (call_refusal before) (cond (quiet i) (Some book.LogFull) None)) ∙ first-none (call_refusal before)
+    (λ i. first_of (call_refusal origin.kept before) (cond (quiet i) (Some book.LogFull) None)) ∙ first-none (call_refusal origin.kept before)
 
 -- a pass that has seen a book's entries returns the leaf that the book returns
 pub full-seen : {D : Type 0} (drive : D → Drive) (w : ℕ) (b mid : BookView D) (old back : Known) → origin_of drive b ≡ old.origin → AreBooks drive w b mid → back.seen ≡ mid.entries → back.origin ≡ old.origin
@@ -177,9 +177,9 @@ refused-cause A IsFree P None fault are free refused = free refused
 refused-cause A IsFree P (Some cause) fault are free refused = let same : cause ≡ fault = cc refused in subst P same (are.each cause refl)
 
 -- the causes of any step
-pub call-causes : (P : BookFault → Type 0) (h : List Entry) → ((n : ℕ) → P (book.Closed n)) → P book.HistoryFull → AreCauses P (call_refusal h)
-call-causes P h closed full =
-    causes-first P (option_map book.Closed (failed_cell h)) (cond (length h == most_events) (Some book.HistoryFull) None) (causes-map P book.Closed (failed_cell h) closed) (causes-if P (length h == most_events) book.HistoryFull full)
+pub call-causes : (P : BookFault → Type 0) (kept : Bool) (h : List Entry) → ((n : ℕ) → P (book.Closed n)) → P book.HistoryFull → AreCauses P (call_refusal kept h)
+call-causes P kept h closed full =
+    causes-first P (option_map book.Closed (failed_cell h)) (cond (length h == most_events kept) (Some book.HistoryFull) None) (causes-map P book.Closed (failed_cell h) closed) (causes-if P (length h == most_events kept) book.HistoryFull full)
 
 -- any fault but of the drive
 abbrev pub IsCalm : BookFault → Type 0
@@ -222,20 +222,20 @@ calm-loses A world op book.NoLeaf calm = tt
 calm-loses A world op (book.Stale number) calm = tt
 calm-loses A world op (book.NotOpen number) calm = tt
 
-pub look-calm : (A : Type 0) (h : List Entry) (fault : BookFault) → IsRefusedBy {A = A} IsMemory (call_refusal h) (Err fault) → IsCalm fault
-look-calm A h fault refused = refused-cause A IsMemory IsCalm (call_refusal h) fault (call-causes IsCalm h (λ n. tt) tt) (λ memory. subst IsCalm (sym memory) tt) refused
+pub look-calm : (A : Type 0) (kept : Bool) (h : List Entry) (fault : BookFault) → IsRefusedBy {A = A} IsMemory (call_refusal kept h) (Err fault) → IsCalm fault
+look-calm A kept h fault refused = refused-cause A IsMemory IsCalm (call_refusal kept h) fault (call-causes IsCalm kept h (λ n. tt) tt) (λ memory. subst IsCalm (sym memory) tt) refused
 
 module _ {I D P : Type 0} (leaves : I → List Leaf) (drive : D → Drive) (w : ℕ) (b mid : BookView D) (old took back : Known) (session row : ℕ) (op : Op) (was : WasTaken drive b old took) (books : AreBooks drive w b mid) where
   look-added : (r : Result (Snapshot I P) BookFault) → IfOk r (λ s. Notes b mid session row op s.place) → Says (λ (s : Snapshot I P). mid.entries ≡ b.entries ++ Call session row op ∷ []) r
   look-added (Ok s) ok = ok.entries
   look-added (Err fault) ok = tt
 
-  look-left : (r : Result (Snapshot I P) BookFault) → IsRefusedBy IsMemory (call_refusal b.entries) r → IfErr r (λ (f : BookFault). mid ≡ b) → IfErr r (LeavesRefused drive (lost.Call session row op) b mid)
+  look-left : (r : Result (Snapshot I P) BookFault) → IsRefusedBy IsMemory (call_refusal b.kept b.entries) r → IfErr r (λ (f : BookFault). mid ≡ b) → IfErr r (LeavesRefused drive (lost.Call session row op) b mid)
   look-left (Ok s) refused err = tt
-  look-left (Err fault) refused err = calm-left drive (lost.Call session row op) b mid fault (look-calm (Snapshot I P) b.entries fault refused) err
+  look-left (Err fault) refused err = calm-left drive (lost.Call session row op) b mid fault (look-calm (Snapshot I P) b.kept b.entries fault refused) err
 
-  pub look-step : (r : Result (Snapshot I P) BookFault) → IfOk r (λ s. Notes b mid session row op s.place) → IsRefusedBy IsMemory (call_refusal b.entries) r → IfErr r (λ (f : BookFault). mid ≡ b)
-      → BookStep drive IsMemory (call_refusal b.entries) (λ (s : Snapshot I P). Call session row op) (lost.Call session row op) b mid r
+  pub look-step : (r : Result (Snapshot I P) BookFault) → IfOk r (λ s. Notes b mid session row op s.place) → IsRefusedBy IsMemory (call_refusal b.kept b.entries) r → IfErr r (λ (f : BookFault). mid ≡ b)
+      → BookStep drive IsMemory (call_refusal b.kept b.entries) (λ (s : Snapshot I P). Call session row op) (lost.Call session row op) b mid r
   look-step r ok refused err = record { refused = refused; added = look-added r ok; left = look-left r refused err }
 
   look-says : (r : Result (Snapshot I P) BookFault) → IfOk r (λ s. Notes b mid session row op s.place) → IfOk r (λ s. Stands (leaves s.index) (places_of (world_after b.opening.world b.entries)) (state_after w mid.opening mid.entries).leaves) → HasWorld b
@@ -251,10 +251,12 @@ module _ {I D P : Type 0} (leaves : I → List Leaf) (drive : D → Drive) (w : 
   look-says (Err fault) ok stands has given = tt
 
   pub looked : (r : Result (Snapshot I P) BookFault) → IfOk r (λ s. Notes b mid session row op s.place) → IfOk r (λ s. Stands (leaves s.index) (places_of (world_after b.opening.world b.entries)) (state_after w mid.opening mid.entries).leaves) → HasWorld b
-      → IsRefusedBy IsMemory (call_refusal b.entries) r → IfErr r (λ (f : BookFault). mid ≡ b) → back ≡ has_given took (has_entry r) mid.entries → Looks leaves w session row op old back r
+      → IsRefusedBy IsMemory (call_refusal b.kept b.entries) r → IfErr r (λ (f : BookFault). mid ≡ b) → back ≡ has_given took (has_entry r) mid.entries → Looks leaves w session row op old back r
   looked r ok stands has refused err given =
-      stepped drive w IsMemory (λ (cells : ℕ). call_refusal) (λ (s : Snapshot I P). Call session row op) (λ (h : List Entry). lost.Call session row op) (λ (h : List Entry) (s : Snapshot I P). Shows w (leaves s.index) old back h s.place) b mid old took back r
-      books.before was (look-step r ok refused err) (look-says r ok stands has given) given
+      stepped drive w IsMemory (λ (cells : ℕ). call_refusal old.origin.kept) (λ (s : Snapshot I P). Call session row op) (λ (h : List Entry). lost.Call session row op) (λ (h : List Entry) (s : Snapshot I P). Shows w (leaves s.index) old back h s.place) b mid old took back r
+      books.before was
+      (subst (λ (o : Origin). BookStep drive IsMemory (call_refusal o.kept b.entries) (λ (s : Snapshot I P). Call session row op) (lost.Call session row op) b mid r) was.origin (look-step r ok refused err))
+      (look-says r ok stands has given) given
 
 -- a call that isn't refused is answered
 pub answered-ok : {A : Type 0} (IsFree : BookFault → Type 0) (op : Op) (cause : Option BookFault) (value : A) (result : Result Done CallFault) → IsRefusedBy IsFree cause (Ok value) → IsAnswered op None result → IsAnswered op cause result
@@ -322,7 +324,7 @@ module _ (w session row : ℕ) (op : Op) (old new : Known) where
       let step = updates.step in
       let full : Bool = ((cells_at old.origin step.before) == most_cells) && is_change (answer_of (world_after old.origin.world step.before) op) in
       refused-cause Done IsMemoryOrDisk IsCallFault (call_cause old.origin op (cells_at old.origin step.before) step.before) fault
-      (causes-first IsCallFault (call_refusal step.before) (cond full (Some book.LogFull) None) (call-causes IsCallFault step.before (λ n. tt) tt) (causes-if IsCallFault full book.LogFull tt)) (free-call fault) step.refused
+      (causes-first IsCallFault (call_refusal old.origin.kept step.before) (cond full (Some book.LogFull) None) (call-causes IsCallFault old.origin.kept step.before (λ n. tt) tt) (causes-if IsCallFault full book.LogFull tt)) (free-call fault) step.refused
 
   pub change-ok : (done : Done) → Updates w session row op old new (Ok done) → Called w session row op old new (Ok done)
   change-ok done updates = record {
@@ -349,22 +351,22 @@ module _ (w session row : ℕ) (op : Op) (old new : Known) where
   change-answers (Err fault) (Err f) update updates is = subst (λ (x : CallFault). Called w session row op old new (Err x)) (sym is) (change-err fault update updates)
 
 module _ (op : Op) (old : Known) (query : IsQuery op) where
-  pub cause-is : (result : Result Done CallFault) (cells : ℕ) (before : List Entry) → IsAnswered op (call_refusal before) result → IsAnswered op (call_cause old.origin op cells before) result
+  pub cause-is : (result : Result Done CallFault) (cells : ℕ) (before : List Entry) → IsAnswered op (call_refusal old.origin.kept before) result → IsAnswered op (call_cause old.origin op cells before) result
   cause-is result cells before answered = subst (λ (o : Option BookFault). IsAnswered op o result) (sym (query-cause old.origin op cells before query)) answered
 
 module _ {I P : Type 0} (leaves : I → List Leaf) (w session row : ℕ) (op : Op) (old new : Known) (query : IsQuery op) where
   pub look-fault : (fault : BookFault) → Looks {P = P} leaves w session row op old new (Err fault) → IsCallFault fault
   look-fault fault step =
-      refused-cause (Snapshot I P) IsMemory IsCallFault (call_refusal step.before) fault (call-causes IsCallFault step.before (λ n. tt) tt) (λ memory. subst IsCallFault (sym memory) tt) step.refused
+      refused-cause (Snapshot I P) IsMemory IsCallFault (call_refusal old.origin.kept step.before) fault (call-causes IsCallFault old.origin.kept step.before (λ n. tt) tt) (λ memory. subst IsCallFault (sym memory) tt) step.refused
 
   pub query-err : (fault : BookFault) → Looks {P = P} leaves w session row op old new (Err fault) → Called w session row op old new (Err (call_fault fault))
   query-err fault step = record {
     before = step.before;
     later = step.later;
     alone = step.alone;
-    answered = cause-is op old query (Err (call_fault fault)) (cells_at old.origin step.before) step.before (answered-err (Snapshot I P) IsMemory op (call_refusal step.before) fault (memory-comes op fault) step.refused);
+    answered = cause-is op old query (Err (call_fault fault)) (cells_at old.origin step.before) step.before (answered-err (Snapshot I P) IsMemory op (call_refusal old.origin.kept step.before) fault (memory-comes op fault) step.refused);
     leaves = fault-leaves (Snapshot I P) w session row op old step.before new fault step.leaves
-        (calm-loses (Snapshot I P) (world_after old.origin.world step.before) op fault (look-calm (Snapshot I P) step.before fault step.refused));
+        (calm-loses (Snapshot I P) (world_after old.origin.world step.before) op fault (look-calm (Snapshot I P) old.origin.kept step.before fault step.refused));
   }
 
   pub query-memory : (shown : Snapshot I P) → Looks leaves w session row op old new (Ok shown) → Called w session row op old new (Err (call.Memory (Some shown.place)))
@@ -372,7 +374,7 @@ module _ {I P : Type 0} (leaves : I → List Leaf) (w session row : ℕ) (op : O
     before = step.before;
     later = step.later;
     alone = step.alone;
-    answered = cause-is op old query (Err (call.Memory (Some shown.place))) (cells_at old.origin step.before) step.before (answered-ok IsMemory op (call_refusal step.before) shown (Err (call.Memory (Some shown.place))) step.refused query);
+    answered = cause-is op old query (Err (call.Memory (Some shown.place))) (cells_at old.origin step.before) step.before (answered-ok IsMemory op (call_refusal old.origin.kept step.before) shown (Err (call.Memory (Some shown.place))) step.refused query);
     leaves = (step.leaves, step.says.place_is);
   }
 
@@ -383,7 +385,7 @@ module _ {I P : Type 0} (leaves : I → List Leaf) (w session row : ℕ) (op : O
     later = step.later;
     alone = step.alone;
     answered = cause-is op old query (Ok (record { place = shown.place; answer = answer; full = None })) (cells_at old.origin step.before) step.before
-        (answered-ok IsMemory op (call_refusal step.before) shown (Ok (record { place = shown.place; answer = answer; full = None })) step.refused tt);
+        (answered-ok IsMemory op (call_refusal old.origin.kept step.before) shown (Ok (record { place = shown.place; answer = answer; full = None })) step.refused tt);
     leaves = (step.leaves, record { replies = record { place_is = step.says.place_is; answer_is = is }; full_is = sym (told-query w op new query) });
   }
 

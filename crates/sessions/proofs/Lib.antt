@@ -9,7 +9,8 @@ pub mod BatchLemmas
 pub mod SplitLemmas
 pub mod LaneLemmas
 pub mod LanePasses
-pub mod Renewals
+pub mod Rooms
 pub mod Views
+pub mod Contents
 pub mod RunLemmas
 pub mod SettleLemmas

@@ -184,8 +184,11 @@ calm-seen A session row op old before new (book.Stale number) calm is = is
 calm-seen A session row op old before new (book.NotOpen number) calm is = is
 
 module _ {D : Type 0} (drive : D → Drive) (w session row : ℕ) (op : Op) (b : BookView D) (pass : Known) (query : IsQuery op) (out : IsOut drive b pass) where
+  note-cause : call_refusal b.kept b.entries ≡ call_refusal pass.origin.kept pass.seen
+  note-cause i = call_refusal (out.origin i).kept (out.entries i)
+
   -- a query that was answered before is called where it is noted
-  pub note-ok : (mid : BookView D) (next : Known) (place : ℕ) (answer : Answer) → Notes b mid session row op place → IsRefusedBy {A = ℕ} IsMemory (call_refusal b.entries) (Ok place)
+  pub note-ok : (mid : BookView D) (next : Known) (place : ℕ) (answer : Answer) → Notes b mid session row op place → IsRefusedBy {A = ℕ} IsMemory (call_refusal b.kept b.entries) (Ok place)
       → next ≡ has_added (freed pass) pass.seen (Call session row op) → answer ≡ answer_of (world_after pass.origin.world pass.seen) op
       → Called w session row op (freed pass) next (Ok (record { place = place; answer = answer; full = None }))
   note-ok mid next place answer notes refused next_is answer_is =
@@ -196,19 +199,19 @@ module _ {D : Type 0} (drive : D → Drive) (w session row : ℕ) (op : Op) (b :
         later = ([], append-nil pass.seen);
         alone = λ all. refl;
         answered = cause-is op (freed pass) query (Ok done) (cells_at pass.origin pass.seen) pass.seen
-            (answered-ok IsMemory op (call_refusal pass.seen) place (Ok done) (subst (λ (h : List Entry). IsRefusedBy {A = ℕ} IsMemory (call_refusal h) (Ok place)) out.entries refused) tt);
+            (answered-ok IsMemory op (call_refusal pass.origin.kept pass.seen) place (Ok done) (subst (λ (o : Option BookFault). IsRefusedBy {A = ℕ} IsMemory o (Ok place)) note-cause refused) tt);
         leaves = (next_is, record { replies = record { place_is = notes.place_is ∙ ap call_count seen; answer_is = answer_is }; full_is = sym (told-query w op next query) });
       }
 
-  pub note-err : (fault : BookFault) → IsRefusedBy {A = ℕ} IsMemory (call_refusal b.entries) (Err fault) → Called w session row op (freed pass) (freed pass) (Err (call_fault fault))
+  pub note-err : (fault : BookFault) → IsRefusedBy {A = ℕ} IsMemory (call_refusal b.kept b.entries) (Err fault) → Called w session row op (freed pass) (freed pass) (Err (call_fault fault))
   note-err fault refused =
-      let refused' : IsRefusedBy {A = ℕ} IsMemory (call_refusal pass.seen) (Err fault) = subst (λ (h : List Entry). IsRefusedBy {A = ℕ} IsMemory (call_refusal h) (Err fault)) out.entries refused in
-      let calm : IsCalm fault = look-calm ℕ pass.seen fault refused' in
+      let refused' : IsRefusedBy {A = ℕ} IsMemory (call_refusal pass.origin.kept pass.seen) (Err fault) = subst (λ (o : Option BookFault). IsRefusedBy {A = ℕ} IsMemory o (Err fault)) note-cause refused in
+      let calm : IsCalm fault = look-calm ℕ pass.origin.kept pass.seen fault refused' in
       record {
         before = pass.seen;
         later = ([], append-nil pass.seen);
         alone = λ all. refl;
-        answered = cause-is op (freed pass) query (Err (call_fault fault)) (cells_at pass.origin pass.seen) pass.seen (answered-err ℕ IsMemory op (call_refusal pass.seen) fault (memory-comes op fault) refused');
+        answered = cause-is op (freed pass) query (Err (call_fault fault)) (cells_at pass.origin pass.seen) pass.seen (answered-err ℕ IsMemory op (call_refusal pass.origin.kept pass.seen) fault (memory-comes op fault) refused');
         leaves = fault-leaves ℕ w session row op (freed pass) pass.seen (freed pass) fault (calm-seen ℕ session row op (freed pass) pass.seen (freed pass) fault calm refl)
             (calm-loses ℕ (world_after pass.origin.world pass.seen) op fault calm);
       }

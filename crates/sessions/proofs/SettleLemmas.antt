@@ -14,7 +14,7 @@ use Rattle.kept_log.specs.Counts.{count_after}
 use Rattle.kept_log.specs.Journal.{failed_cell}
 use Rattle.kept_log.proofs.InJournal.{failed_cell-push, has_failed-none}
 use Rattle.commit_book.specs.IsBook.{most_events}
-use Rattle.commit_book.specs.Refusals.{IsRefusedBy, IsDisk, IsMemoryOrDisk, first_of, closed_refusal, room_refusal, leaf_refusal, end_refusal, most_cells}
+use Rattle.commit_book.specs.Refusals.{IsRefusedBy, IsDisk, IsMemoryOrDisk, first_of, closed_refusal, room_refusal, leaf_refusal, end_refusal, most_cells, most_events_to_begin}
 use Rattle.commit_book.specs.declared.faults.BookFault.{BookFault}
 use Rattle.commit_book.specs.declared.faults.BookFault.TheVariants as book
 use Rattle.commit_book.proofs.RefusalLemmas.{going_on, number-none, leaf-split}
@@ -53,27 +53,27 @@ free-next fault (inr disk) = disk-next fault disk
 
 -- the begin of the next leaf's split is refused for want of room alone
 begin-room : (w : ℕ) (old : Known) (name : List Bool) (cells : ℕ) (before : List Entry) → before ≡ old.seen → closed_refusal old.seen ≡ None → next_full w old ≡ Some name
-    → begin_cause w old.origin name cells before ≡ room_refusal cells (length before)
+    → begin_cause w old.origin name cells before ≡ room_refusal old.origin.kept cells (length before)
 begin-room w old name cells before same unclosed full =
     let s = state_of w old.origin old.seen in
     let free = full_leaf-free w old.origin.bucket s name full in
-    let room = room_refusal cells (length before) in
+    let room = room_refusal old.origin.kept cells (length before) in
     (λ i. first_of (closed_refusal (same i)) (first_of room (leaf_refusal w (state_of w old.origin (same i)) name)))
     ∙ (λ i. first_of (unclosed i) (first_of room (leaf_refusal w s name)))
     ∙ ap (first_of room) (leaf-split w s name free.leaf free.short ∙ ap (option_map book.Splitting) (number-none s.splits name free.free))
     ∙ first-none room
 
-room-next : (cells events : ℕ) → AreCauses IsNextFault (room_refusal cells events)
-room-next cells events = causes-if IsNextFault (nat_lt 16000000 cells || nat_lt 4000000 events) (book.Room cells events) tt
+room-next : (kept : Bool) (cells events : ℕ) → AreCauses IsNextFault (room_refusal kept cells events)
+room-next kept cells events = causes-if IsNextFault (nat_lt 16000000 cells || nat_lt (most_events_to_begin kept) events) (book.Room cells events) tt
 
 -- where there was room
-pub has-room : (cells events : ℕ) → room_refusal cells events ≡ None → (events ≤ 4000000) × (cells ≤ 16000000)
-has-room cells events none = by_tests (nat_lt 16000000 cells) (nat_lt 4000000 events) refl refl none
+pub has-room : (kept : Bool) (cells events : ℕ) → room_refusal kept cells events ≡ None → (events ≤ most_events_to_begin kept) × (cells ≤ 16000000)
+has-room kept cells events none = by_tests (nat_lt 16000000 cells) (nat_lt (most_events_to_begin kept) events) refl refl none
   where
-    by_tests : (a b : Bool) → nat_lt 16000000 cells ≡ a → nat_lt 4000000 events ≡ b → cond (a || b) (Some (book.Room cells events)) None ≡ None → (events ≤ 4000000) × (cells ≤ 16000000)
+    by_tests : (a b : Bool) → nat_lt 16000000 cells ≡ a → nat_lt (most_events_to_begin kept) events ≡ b → cond (a || b) (Some (book.Room cells events)) None ≡ None → (events ≤ most_events_to_begin kept) × (cells ≤ 16000000)
     by_tests true b is other none = absurd (cc)
     by_tests false true other is none = absurd (cc)
-    by_tests false false few less none = (ltb-false 4000000 events less, ltb-false 16000000 cells few)
+    by_tests false false few less none = (ltb-false (most_events_to_begin kept) events less, ltb-false 16000000 cells few)
 
 -- one entry behind that there is room for an end
 cells-next : (first : Option ℕ) (world : World) (before : List Entry) (e : Entry) → count_after first world (before ++ e ∷ []) ≤ count_after first world before + 1
@@ -94,12 +94,18 @@ not-equal a b less = by_test (a == b) refl
     by_test false is = refl
     by_test true is = let same : a ≡ b = (Decides-eqb a b).0 is in absurd (omega arith)
 
+below-most : (kept : Bool) (n : ℕ) → n ≤ most_events_to_begin kept → n + 1 + 1 ≤ most_events kept
+below-most true n few = omega arith
+below-most false n few = omega arith
+
 -- so no end is refused there
-end-free : (before after : List Entry) (number cells : ℕ) (name : List Bool) → after ≡ before ++ Begin number name ∷ [] → failed_cell before ≡ None → length before ≤ 4000000 → cells ≤ 16000001 → end_refusal cells after ≡ None
-end-free before after number cells name is going few less =
+end-free : (kept : Bool) (before after : List Entry) (number cells : ℕ) (name : List Bool) → after ≡ before ++ Begin number name ∷ [] → failed_cell before ≡ None → length before ≤ most_events_to_begin kept → cells ≤ 16000001
+    → end_refusal kept cells after ≡ None
+end-free kept before after number cells name is going few less =
+    let below = below-most kept (length before) few in
     let unclosed : failed_cell after ≡ None = ap failed_cell is ∙ failed_cell-push before (Begin number name) (has_failed-none before going) in
     let count : length after ≡ length before + 1 = ap length is ∙ length-append before (Begin number name ∷ []) in
-    let events : (length after == most_events) ≡ false = not-equal (length after) most_events (omega arith) in
+    let events : (length after == most_events kept) ≡ false = not-equal (length after) (most_events kept) (omega arith) in
     let full : (cells == most_cells) ≡ false = not-equal cells most_cells (omega arith) in
     λ i. first_of (first_of (option_map book.Closed (unclosed i)) (cond (events i) (Some book.HistoryFull) None)) (cond (full i) (Some book.LogFull) None)
 
@@ -109,10 +115,10 @@ allowed None number refused = refl
 allowed (Some cause) number refused = absurd (cc refused)
 
 module _ (w : ℕ) (old mid : Known) (number : ℕ) (name : List Bool) (all : old.parts ≡ all_parts) (unclosed : closed_refusal old.seen ≡ None) (full : next_full w old ≡ Some name) (begins : BeginsSplit w name old mid (Ok number)) where
-  begun-room : (length begins.before ≤ 4000000) × (cells_at old.origin begins.before ≤ 16000000)
+  begun-room : (length begins.before ≤ most_events_to_begin old.origin.kept) × (cells_at old.origin begins.before ≤ 16000000)
   begun-room =
       let cells = cells_at old.origin begins.before in
-      has-room cells (length begins.before) (sym (begin-room w old name cells begins.before (begins.alone all) unclosed full) ∙ allowed (begin_cause w old.origin name cells begins.before) number begins.refused)
+      has-room old.origin.kept cells (length begins.before) (sym (begin-room w old name cells begins.before (begins.alone all) unclosed full) ∙ allowed (begin_cause w old.origin name cells begins.before) number begins.refused)
 
   going : failed_cell begins.before ≡ None
   going = going_on begins.before (ap closed_refusal (begins.alone all) ∙ unclosed)
@@ -127,22 +133,22 @@ module _ (w : ℕ) (old mid : Known) (number : ℕ) (name : List Bool) (all : ol
   mid-parts = ap (λ (k : Known). k.parts) begins.leaves ∙ all
 
   -- the end of the split is refused for no cause
-  ends-free : (origin : Origin) (after : List Entry) → origin ≡ mid.origin → after ≡ mid.seen → end_refusal (cells_at origin after) after ≡ None
+  ends-free : (origin : Origin) (after : List Entry) → origin ≡ mid.origin → after ≡ mid.seen → end_refusal origin.kept (cells_at origin after) after ≡ None
   ends-free origin after from same =
       let is : after ≡ begins.before ++ Begin number name ∷ [] = same ∙ mid-seen in
       let few = begun-room.1 in
       let next = cells-added old.origin begins.before (Begin number name) in
       let cells : cells_at origin after ≡ cells_at old.origin (begins.before ++ Begin number name ∷ []) = (λ i. cells_at ((from ∙ mid-origin) i) (is i)) in
-      end-free begins.before after number (cells_at origin after) name is going begun-room.0 (omega arith)
+      subst (λ (o : Origin). end_refusal o.kept (cells_at origin after) after ≡ None) (sym (from ∙ mid-origin)) (end-free old.origin.kept begins.before after number (cells_at origin after) name is going begun-room.0 (omega arith))
 
-  free-fault : (IsFree : BookFault → Type 0) (cells : ℕ) (after : List Entry) (fault : BookFault) → end_refusal cells after ≡ None → IsRefusedBy {A = Unit {0}} IsFree (end_refusal cells after) (Err fault) → IsFree fault
-  free-fault IsFree cells after fault none refused = subst (λ (o : Option BookFault). IsRefusedBy {A = Unit {0}} IsFree o (Err fault)) none refused
+  free-fault : (IsFree : BookFault → Type 0) (kept : Bool) (cells : ℕ) (after : List Entry) (fault : BookFault) → end_refusal kept cells after ≡ None → IsRefusedBy {A = Unit {0}} IsFree (end_refusal kept cells after) (Err fault) → IsFree fault
+  free-fault IsFree kept cells after fault none refused = subst (λ (o : Option BookFault). IsRefusedBy {A = Unit {0}} IsFree o (Err fault)) none refused
 
   gives-next : (seen new : Known) (fault : BookFault) → seen.seen ≡ mid.seen → seen.origin ≡ mid.origin → seen.parts ≡ mid.parts → GivesUp w number seen new fault → IsNextFault fault
   gives-next seen new fault same origin parts (inl (memory, step)) = memory-next fault memory
   gives-next seen new fault same origin parts (inr ends) =
       let step = ends.step in
-      disk-next fault (free-fault IsDisk (cells_at seen.origin step.before) step.before fault (ends-free seen.origin step.before origin (step.alone (parts ∙ mid-parts) ∙ same)) step.refused)
+      disk-next fault (free-fault IsDisk seen.origin.kept (cells_at seen.origin step.before) step.before fault (ends-free seen.origin step.before origin (step.alone (parts ∙ mid-parts) ∙ same)) step.refused)
 
   ran-next : (seen new : Known) (fault : BookFault) → RanOut w number mid seen → GivesUp w number seen new fault → IsNextFault fault
   ran-next seen new fault (inl same) gives = gives-next seen new fault (ap (λ (k : Known). k.seen) same) (ap (λ (k : Known). k.origin) same) (ap (λ (k : Known). k.parts) same) gives
@@ -151,7 +157,7 @@ module _ (w : ℕ) (old mid : Known) (number : ℕ) (name : List Bool) (all : ol
       gives-next seen new fault (ap (λ (k : Known). k.seen) step.leaves ∙ step.alone mid-parts) (ap (λ (k : Known). k.origin) step.leaves) (ap (λ (k : Known). k.parts) step.leaves) gives
 
   not-next : (new : Known) (fault : BookFault) → NotInstalled w number mid new fault → IsNextFault fault
-  not-next new fault (inl (lasting, ends)) = let step = ends.step in free-next fault (free-fault IsMemoryOrDisk (cells_at mid.origin step.before) step.before fault (ends-free mid.origin step.before refl (step.alone mid-parts)) step.refused)
+  not-next new fault (inl (lasting, ends)) = let step = ends.step in free-next fault (free-fault IsMemoryOrDisk mid.origin.kept (cells_at mid.origin step.before) step.before fault (ends-free mid.origin step.before refl (step.alone mid-parts)) step.refused)
   not-next new fault (inr (seen, ran, gives)) = ran-next seen new fault ran gives
 
 -- nothing but want of room or memory, or the drive, comes in the way
@@ -160,7 +166,7 @@ next-fault w name old new (Installed number) all unclosed full ends = tt
 next-fault w name old new (NotSplit fault) all unclosed full (inl step) =
     let cells = cells_at old.origin step.before in
     refused-cause ℕ IsMemoryOrDisk IsNextFault (begin_cause w old.origin name cells step.before) fault
-    (subst (AreCauses IsNextFault) (sym (begin-room w old name cells step.before (step.alone all) unclosed full)) (room-next cells (length step.before))) (free-next fault) step.refused
+    (subst (AreCauses IsNextFault) (sym (begin-room w old name cells step.before (step.alone all) unclosed full)) (room-next old.origin.kept cells (length step.before))) (free-next fault) step.refused
 next-fault w name old new (NotSplit fault) all unclosed full (inr (number, mid, begins, not)) = not-next w old mid number name all unclosed full begins new fault not
 
 -- want of room is that of the begin
@@ -176,19 +182,19 @@ room-begin w name old new cells events all unclosed full (inr (number, mid, begi
     no-room : NotInstalled w number mid new (book.Room cells events) → ⊥
     no-room (inl (lasting, ends)) =
         let step = ends.step in
-        never (free-fault w old mid number name all unclosed full begins IsMemoryOrDisk (cells_at mid.origin step.before) step.before (book.Room cells events)
+        never (free-fault w old mid number name all unclosed full begins IsMemoryOrDisk mid.origin.kept (cells_at mid.origin step.before) step.before (book.Room cells events)
         (ends-free w old mid number name all unclosed full begins mid.origin step.before refl (step.alone (mid-parts w old mid number name all unclosed full begins))) step.refused)
     no-room (inr (seen, ran, inl (memory, step))) = cc memory
     no-room (inr (seen, inl same, inr ends)) =
         let step = ends.step in
-        free-fault w old mid number name all unclosed full begins IsDisk (cells_at seen.origin step.before) step.before (book.Room cells events)
+        free-fault w old mid number name all unclosed full begins IsDisk seen.origin.kept (cells_at seen.origin step.before) step.before (book.Room cells events)
         (ends-free w old mid number name all unclosed full begins seen.origin step.before (ap (λ (k : Known). k.origin) same)
         (step.alone (ap (λ (k : Known). k.parts) same ∙ mid-parts w old mid number name all unclosed full begins) ∙ ap (λ (k : Known). k.seen) same)) step.refused
     no-room (inr (seen, inr run, inr ends)) =
         let ran = run.step in
         let step = ends.step in
         let parts = mid-parts w old mid number name all unclosed full begins in
-        free-fault w old mid number name all unclosed full begins IsDisk (cells_at seen.origin step.before) step.before (book.Room cells events)
+        free-fault w old mid number name all unclosed full begins IsDisk seen.origin.kept (cells_at seen.origin step.before) step.before (book.Room cells events)
         (ends-free w old mid number name all unclosed full begins seen.origin step.before (ap (λ (k : Known). k.origin) ran.leaves)
         (step.alone (ap (λ (k : Known). k.parts) ran.leaves ∙ parts) ∙ (ap (λ (k : Known). k.seen) ran.leaves ∙ ran.alone parts))) step.refused
 

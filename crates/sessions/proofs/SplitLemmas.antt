@@ -117,8 +117,9 @@ module _ {D : Type 0} (drive : D → Drive) (w : ℕ) (b mid : BookView D) (old 
 
   begin-refused : (r : Result SplitTicket BookFault) → IsRefusedBy IsMemoryOrDisk (begin_refusal w b name) r → IsRefusedBy IsMemoryOrDisk (begin_cause w old.origin name (cells_in b.log) b.entries) (number_of r)
   begin-refused r refused =
-      subst (λ (s : State). IsRefusedBy IsMemoryOrDisk (first_of (closed_refusal b.entries) (first_of (room_refusal (cells_in b.log) (length b.entries)) (leaf_refusal w s name))) (number_of r)) (book-state b.entries)
-      (number-refused IsMemoryOrDisk (begin_refusal w b name) r refused)
+      let cause : begin_refusal w b name ≡ begin_cause w old.origin name (cells_in b.log) b.entries =
+      (λ i. first_of (closed_refusal b.entries) (first_of (room_refusal (was.origin i).kept (cells_in b.log) (length b.entries)) (leaf_refusal w (book-state b.entries i) name))) in
+      subst (λ (o : Option BookFault). IsRefusedBy IsMemoryOrDisk o (number_of r)) cause (number-refused IsMemoryOrDisk (begin_refusal w b name) r refused)
 
   pub begun-step : (r : Result SplitTicket BookFault) → IfOk r (λ t. Begins w b mid name t) → IsRefusedBy IsMemoryOrDisk (begin_refusal w b name) r → IfErr r (LeavesRefused drive (lost.Begin ((state_after w b.opening b.entries).begun + 1) name) b mid)
       → BookStep drive IsMemoryOrDisk (begin_cause w old.origin name (cells_in b.log) b.entries) (λ (number : ℕ). Begin number name) (lost.Begin ((state_of w old.origin b.entries).begun + 1) name) b mid (number_of r)
@@ -146,8 +147,8 @@ module _ {D : Type 0} (drive : D → Drive) (w : ℕ) (b mid : BookView D) (old 
   none-said (Ok done) = tt
   none-said (Err fault) = tt
 
-  end-step : (IsFree : BookFault → Type 0) (cause : Option BookFault) (e : Entry) (step : Lost) (r : Result (Unit {0}) BookFault) → cause ≡ end_refusal (cells_in b.log) b.entries → IsRefusedBy IsFree cause r
-      → OnOk r (mid.entries ≡ b.entries ++ e ∷ []) → IfErr r (LeavesRefused drive step b mid) → BookStep drive IsFree (end_refusal (cells_in b.log) b.entries) (λ (done : Unit {0}). e) step b mid r
+  end-step : (IsFree : BookFault → Type 0) (cause : Option BookFault) (e : Entry) (step : Lost) (r : Result (Unit {0}) BookFault) → cause ≡ end_refusal b.kept (cells_in b.log) b.entries → IsRefusedBy IsFree cause r
+      → OnOk r (mid.entries ≡ b.entries ++ e ∷ []) → IfErr r (LeavesRefused drive step b mid) → BookStep drive IsFree (end_refusal b.kept (cells_in b.log) b.entries) (λ (done : Unit {0}). e) step b mid r
   end-step IsFree cause e step (Ok done) same refused added left = record { refused = subst (λ (o : Option BookFault). IsRefusedBy {A = Unit {0}} IsFree o (Ok done)) same refused; added = added; left = left }
   end-step IsFree cause e step (Err fault) same refused added left = record { refused = subst (λ (o : Option BookFault). IsRefusedBy {A = Unit {0}} IsFree o (Err fault)) same refused; added = tt; left = left }
 
@@ -158,9 +159,10 @@ module _ {D : Type 0} (drive : D → Drive) (w : ℕ) (b mid : BookView D) (old 
       subst (λ (s : State). IsTrue (is_some (split_name s.splits number))) state (subst (λ (o : Option (List Bool)). IsTrue (is_some o)) (sym there) refl)
 
   ended : (IsFree : BookFault → Type 0) (number : ℕ) (name : List Bool) (e : Entry) (step : Lost) (r : Result (Unit {0}) BookFault) → split_name (state_after w b.opening b.entries).splits number ≡ Some name
-      → BookStep drive IsFree (end_refusal (cells_in b.log) b.entries) (λ (done : Unit {0}). e) step b mid r → back ≡ has_given took (has_entry r) mid.entries → EndsOpen w number IsFree e step old back r
+      → BookStep drive IsFree (end_refusal b.kept (cells_in b.log) b.entries) (λ (done : Unit {0}). e) step b mid r → back ≡ has_given took (has_entry r) mid.entries → EndsOpen w number IsFree e step old back r
   ended IsFree number name e step r there it given = record {
-    step = stepped drive w IsFree end_refusal (λ (done : Unit {0}). e) (λ (h : List Entry). step) (λ (h : List Entry) (done : Unit {0}). ⊤) b mid old took back r books.before was it (none-said r) given;
+    step = stepped drive w IsFree (end_refusal old.origin.kept) (λ (done : Unit {0}). e) (λ (h : List Entry). step) (λ (h : List Entry) (done : Unit {0}). ⊤) b mid old took back r books.before was
+        (subst (λ (o : Origin). BookStep drive IsFree (end_refusal o.kept (cells_in b.log) b.entries) (λ (done : Unit {0}). e) step b mid r) was.origin it) (none-said r) given;
     is_open = open-there number name there;
   }
 
@@ -185,14 +187,14 @@ module _ {D : Type 0} (drive : D → Drive) (w : ℕ) (b mid : BookView D) (old 
   there = still_open drive w b took number name base books.before origin-took was.entries ends begun-took
 
   install-step : IsRefusedBy IsMemoryOrDisk (install_refusal w b number name base) r → OnOk r (Installs w b mid number name) → IfErr r (LeavesRefused drive (lost.Install number) b mid)
-      → BookStep drive IsMemoryOrDisk (end_refusal (cells_in b.log) b.entries) (λ (done : Unit {0}). Install number) (lost.Install number) b mid r
+      → BookStep drive IsMemoryOrDisk (end_refusal b.kept (cells_in b.log) b.entries) (λ (done : Unit {0}). Install number) (lost.Install number) b mid r
   install-step refused ok err =
       end-step drive w b mid old took took was books IsMemoryOrDisk (install_refusal w b number name base) (Install number) (lost.Install number) r
       (never-stale drive w b took number name base books.before origin-took was.entries ends begun-took) refused (installed-added w b mid number name r ok) err
 
   pub install-may : IsRefusedBy IsMemoryOrDisk (install_refusal w b number name base) r → OnOk r (Installs w b mid number name) → IfErr r (LeavesRefused drive (lost.Install number) b mid) → MayGive took (has_entry r) mid.entries
   install-may refused ok err =
-      may-give drive IsMemoryOrDisk (end_refusal (cells_in b.log) b.entries) (λ (done : Unit {0}). Install number) (lost.Install number) b mid took was.entries r (install-step refused ok err)
+      may-give drive IsMemoryOrDisk (end_refusal b.kept (cells_in b.log) b.entries) (λ (done : Unit {0}). Install number) (lost.Install number) b mid took was.entries r (install-step refused ok err)
       (says-all (λ (done : Unit {0}). MayNote took.seen took.own (Install number)) (λ (done : Unit {0}). begun-install took number name base begun-took) r)
 
   pub install-ends : (back : Known) → IsRefusedBy IsMemoryOrDisk (install_refusal w b number name base) r → OnOk r (Installs w b mid number name) → IfErr r (LeavesRefused drive (lost.Install number) b mid) → back ≡ has_given took (has_entry r) mid.entries
@@ -200,14 +202,14 @@ module _ {D : Type 0} (drive : D → Drive) (w : ℕ) (b mid : BookView D) (old 
   install-ends back refused ok err given = ended drive w b mid old took back was books IsMemoryOrDisk number name (Install number) (lost.Install number) r there (install-step refused ok err) given
 
   abandon-step : IsRefusedBy IsDisk (abandon_refusal w b number) r → OnOk r (Abandons b mid number) → IfErr r (LeavesRefused drive (lost.Abandon number) b mid)
-      → BookStep drive IsDisk (end_refusal (cells_in b.log) b.entries) (λ (done : Unit {0}). Abandon number) (lost.Abandon number) b mid r
+      → BookStep drive IsDisk (end_refusal b.kept (cells_in b.log) b.entries) (λ (done : Unit {0}). Abandon number) (lost.Abandon number) b mid r
   abandon-step refused ok err =
       end-step drive w b mid old took took was books IsDisk (abandon_refusal w b number) (Abandon number) (lost.Abandon number) r
       (never-ended drive w b took number name base books.before origin-took was.entries ends begun-took) refused (abandoned-added b mid number r ok) err
 
   pub abandon-may : IsRefusedBy IsDisk (abandon_refusal w b number) r → OnOk r (Abandons b mid number) → IfErr r (LeavesRefused drive (lost.Abandon number) b mid) → MayGive took (has_entry r) mid.entries
   abandon-may refused ok err =
-      may-give drive IsDisk (end_refusal (cells_in b.log) b.entries) (λ (done : Unit {0}). Abandon number) (lost.Abandon number) b mid took was.entries r (abandon-step refused ok err)
+      may-give drive IsDisk (end_refusal b.kept (cells_in b.log) b.entries) (λ (done : Unit {0}). Abandon number) (lost.Abandon number) b mid took was.entries r (abandon-step refused ok err)
       (says-all (λ (done : Unit {0}). MayNote took.seen took.own (Abandon number)) (λ (done : Unit {0}). begun-abandon took number name base begun-took) r)
 
   pub abandon-ends : (back : Known) → IsRefusedBy IsDisk (abandon_refusal w b number) r → OnOk r (Abandons b mid number) → IfErr r (LeavesRefused drive (lost.Abandon number) b mid) → back ≡ has_given took (has_entry r) mid.entries
@@ -220,10 +222,10 @@ begins-same w name old new r step =
     step-same IsMemoryOrDisk (begin_cause w old.origin name) (λ (number : ℕ). Begin number name) (λ (h : List Entry). lost.Begin ((state_of w old.origin h).begun + 1) name) (IsNextSplit w old.origin) old new r step
 
 pub installs-same : (w number : ℕ) (old new : Known) (r : Result (Unit {0}) BookFault) → InstallsSplit w number old new r → SamePass old new
-installs-same w number old new r ends = step-same IsMemoryOrDisk end_refusal (λ (done : Unit {0}). Install number) (λ (h : List Entry). lost.Install number) (λ (h : List Entry) (done : Unit {0}). ⊤) old new r ends.step
+installs-same w number old new r ends = step-same IsMemoryOrDisk (end_refusal old.origin.kept) (λ (done : Unit {0}). Install number) (λ (h : List Entry). lost.Install number) (λ (h : List Entry) (done : Unit {0}). ⊤) old new r ends.step
 
 pub abandons-same : (w number : ℕ) (old new : Known) (r : Result (Unit {0}) BookFault) → AbandonsSplit w number old new r → SamePass old new
-abandons-same w number old new r ends = step-same IsDisk end_refusal (λ (done : Unit {0}). Abandon number) (λ (h : List Entry). lost.Abandon number) (λ (h : List Entry) (done : Unit {0}). ⊤) old new r ends.step
+abandons-same w number old new r ends = step-same IsDisk (end_refusal old.origin.kept) (λ (done : Unit {0}). Abandon number) (λ (h : List Entry). lost.Abandon number) (λ (h : List Entry) (done : Unit {0}). ⊤) old new r ends.step
 
 pub gives-same : (w number : ℕ) (old new : Known) (fault : BookFault) → GivesUp w number old new fault → SamePass old new
 gives-same w number old new fault (inl (memory, step)) = abandons-same w number old new (Ok tt) step

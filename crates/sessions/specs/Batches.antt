@@ -13,6 +13,7 @@ use Rattle.commit_book.specs.declared.book.batches.BatchDone.{BatchDone}
 use Rattle.commit_book.specs.declared.faults.BookFault.{BookFault}
 use Rattle.book_lock.specs.Ends.{EndsSplit}
 use Rattle.book_lock.specs.Pass.{Known}
+use Rattle.book_lock.specs.declared.origin.Origin.{Origin}
 use Rattle.sessions.specs.Calls.{call_fault, next_full}
 use Rattle.sessions.specs.Steps.{all_parts, cells_at, has_seen}
 use Rattle.sessions.specs.declared.faults.CallFault.{CallFault}
@@ -40,8 +41,8 @@ has_added_all old before es = record old { seen = before ++ es; own = old.own ++
 
 -- Why a batch is refused after a history, with so many cells in the log: the book is closed, or the history or the log
 -- has no room for it.
-abbrev pub batch_cause : List Op → ℕ → List Entry → Option BookFault
-batch_cause ops cells before = first_of (closed_refusal before) (first_of (entries_refusal (length ops) before) (records_refusal (most_changes ops) cells))
+abbrev pub batch_cause : Origin → List Op → ℕ → List Entry → Option BookFault
+batch_cause origin ops cells before = first_of (closed_refusal before) (first_of (entries_refusal origin.kept (length ops) before) (records_refusal (most_changes ops) cells))
 
 -- A fault that is free to come to a batch: the drive failed, or memory ran out before the step.
 abbrev pub MayFail : CallFault → Type 0
@@ -86,5 +87,5 @@ pub record Applied (w session row : ℕ) (ops : List Op) (old new : Known) (resu
   pub before : List Entry
   pub later : IsPrefix old.seen before
   pub alone : old.parts ≡ all_parts → before ≡ old.seen
-  pub answered : IsApplied (batch_cause ops (cells_at old.origin before) before) result
+  pub answered : IsApplied (batch_cause old.origin ops (cells_at old.origin before) before) result
   pub leaves : BatchLeaves w session row ops old before new result

@@ -33,7 +33,7 @@ use Rattle.sessions.specs.declared.faults.CallFault.TheVariants.{Closed, Disk, H
 -- the log is full and the call would change an object.
 abbrev pub call_cause : Origin → Op → ℕ → List Entry → Option BookFault
 call_cause origin op cells before =
-    first_of (call_refusal before) (if (cells == most_cells) && is_change (answer_of (world_after origin.world before) op) then Some book.LogFull else None)
+    first_of (call_refusal origin.kept before) (if (cells == most_cells) && is_change (answer_of (world_after origin.world before) op) then Some book.LogFull else None)
 
 -- A fault that a call may return.
 abbrev pub IsCallFault : BookFault → Type 0
@@ -151,4 +151,4 @@ pub record Shows (w : ℕ) (leaves : List Leaf) (old new : Known) (before : List
 -- A query under the lock, which returns the index as it is there.
 abbrev pub Looks : {I P : Type 0} → (I → List Leaf) → ℕ → ℕ → ℕ → Op → Known → Known → Result (Snapshot I P) BookFault → Type 0
 Looks leaves w session row op old new result =
-    IsStep IsMemory (λ cells. call_refusal) (λ shown. Call session row op) (λ before. lost.Call session row op) (λ before shown. Shows w (leaves shown.index) old new before shown.place) old new result
+    IsStep IsMemory (λ cells. call_refusal old.origin.kept) (λ shown. Call session row op) (λ before. lost.Call session row op) (λ before shown. Shows w (leaves shown.index) old new before shown.place) old new result

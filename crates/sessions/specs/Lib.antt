@@ -3,10 +3,11 @@ pub mod Steps
 pub mod Standing
 pub mod Opens
 pub mod Views
+pub mod Contents
 pub mod Calls
 pub mod Batches
 pub mod Splits
 pub mod Lanes
-pub mod Renewals
+pub mod Rooms
 pub mod Runs
 pub mod Settles

@@ -41,6 +41,7 @@ origin_of drive b = record {
   begun = b.opening.begun;
   log = option_map (start_in drive) b.log;
   bucket = b.bucket;
+  kept = b.kept;
 }
 
 -- The state at which a book of this origin began.

@@ -30,7 +30,7 @@ state_of w origin before = state_after w (start_of origin) before
 -- Why the begin of a split is refused after a history.
 abbrev pub begin_cause : ℕ → Origin → List Bool → ℕ → List Entry → Option BookFault
 begin_cause w origin name cells before =
-    first_of (closed_refusal before) (first_of (room_refusal cells (length before)) (leaf_refusal w (state_of w origin before) name))
+    first_of (closed_refusal before) (first_of (room_refusal origin.kept cells (length before)) (leaf_refusal w (state_of w origin before) name))
 
 -- The split has the next number.
 abbrev pub IsNextSplit : ℕ → Origin → List Entry → ℕ → Type 0
@@ -49,7 +49,7 @@ BeginsSplit w name old new result =
 -- A step that ends a split. The split is open in the history that the pass saw under the lock, so only causes that any
 -- step has refuse it.
 pub record EndsOpen (w number : ℕ) (IsFree : BookFault → Type 0) (e : Entry) (left : Lost) (old new : Known) (result : Result (Unit {0}) BookFault) : Type 0 where
-  pub step : IsStep IsFree end_refusal (λ done. e) (λ before. left) (λ before done. ⊤) old new result
+  pub step : IsStep IsFree (end_refusal old.origin.kept) (λ done. e) (λ before. left) (λ before done. ⊤) old new result
   pub is_open : IsTrue (is_some (split_name (state_of w old.origin step.before).splits number))
 
 -- The install of a split that the pass has begun.

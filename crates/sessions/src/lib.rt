@@ -11,7 +11,7 @@
 //! | `run_lanes` | plays the rows of several sessions, each row by one call |
 //! | `settle` | makes the splits that are due at the end |
 //! | `room`, `world`, `view` | return the room that is left, a copy of the objects, or a share of the index |
-//! | `renew` | makes a store of the same objects with an empty history |
+//! | `content`, `anew` | copy the objects with the names of the leaves, or with an index with fresh leaves |
 //! | `close` | returns the book, whose history is what the last pass has seen |
 //!
 //! Each refusal has its cause over the history that the pass saw under the lock. The log of a returned book continues
@@ -32,4 +32,4 @@ mod store;
 pub use faults::{CallFault, Settled, Split};
 pub use shared::SharedBook;
 pub use start::Start;
-pub use store::{KeptRow, Lane, NotRenewed, Renewed, Store};
+pub use store::{KeptRow, Lane, Store};

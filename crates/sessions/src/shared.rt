@@ -1,28 +1,31 @@
 //! A book behind a lock.
 ghost use Rattle.std.specs.Prelude.{◌≡◌, ◌+◌, ◌<◌, ◌≤◌, ◌^◌, length, Some, None, IfOk, IfErr, OnOk};
 ghost use Rattle.std.specs.List.{AllByRecursion};
+ghost use Rattle.std.specs.Result.{result_err};
 ghost use Rattle.zorder.specs.Key.{IsPoint};
 ghost use Rattle.plain_list.specs.Answer.{FitsOp};
 ghost use Rattle.plain_list.specs.World.{IsWorld};
 ghost use Rattle.plain_list.specs.History.{call_count, world_after};
 ghost use Rattle.plain_list.specs.Size.{full_leaf};
-ghost use Rattle.plain_list.specs.State.{state_after};
+ghost use Rattle.plain_list.specs.State.{ComesBySplits, state_after};
+ghost use Rattle.index_layer.specs.Leaves.{names_of};
+ghost use Rattle.point_table.specs.Sized.{StandsBySize};
 ghost use Rattle.plain_list.specs.declared.entries.Lost.{Lost};
 ghost use Rattle.commit_book.specs.IsBook.{IsBook, AreBooks};
-ghost use Rattle.commit_book.specs.Refusals.{IsRefusedBy, IsDisk, IsMemory, IsMemoryOrDisk, LeavesRefused, call_refusal, update_refusal, begin_refusal, prepared_refusal, abandon_refusal};
+ghost use Rattle.commit_book.specs.Refusals.{IsRefusedBy, IsDisk, IsMemory, IsMemoryOrDisk, LeavesRefused, closed_refusal, call_refusal, update_refusal, begin_refusal, prepared_refusal, abandon_refusal};
 ghost use Rattle.commit_book.specs.Answers.{IsUpdate, IsQuery, Notes, Replies, is_still_since};
 ghost use Rattle.commit_book.specs.Batches.{RepliesAll, LeavesRefusedAll, batch_refusal};
 ghost use Rattle.commit_book.specs.BookView.{StandsAfter, next_number};
-ghost use Rattle.commit_book.specs.Renewal.{renewed, renew_refusal, room_of};
+ghost use Rattle.commit_book.specs.RoomLeft.{room_of};
 ghost use Rattle.commit_book.specs.SplitSteps.{Begins, CanPrepare, Installs, Abandons};
 ghost use Rattle.sessions.specs.Shared.{HasWorld, StandsBefore, StartsAs, TellsFull};
 
 use crate::start::Start;
 use book_lock::Held;
-use commit_book::{BatchDone, Book, BookFault, Done, RenewFault, Room, Snapshot};
+use commit_book::{Anew, BatchDone, Book, BookFault, Content, Done, Room, Snapshot};
 use disk_trait::LogDisk;
 use index_layer::Index;
-use plain_list::{Entries, Op, World};
+use plain_list::{Op, World};
 use split_prepare::{Prepared, SplitTicket};
 use std::alloc::{AllocFailed, Global};
 use std::marker::{Model, PhantomData};
@@ -89,32 +92,6 @@ impl<I: Index, D: LogDisk, O: Start> SharedBook<I, D, O> {
         Box::into_inner(self.book)
     }
 
-    /// Gives the book an empty history, and another start. If the book is not renewed, the call returns it.
-    pub(crate) fn renew<N: Start>(
-        self,
-        alloc: Global,
-    ) -> Result<(SharedBook<I, D, N>, Entries), (Book<I, D>, RenewFault)>
-        requires start { IsBook D.drive I.WIDTH self → StartsAs D.drive O.unlogged O.is self.log
-            → StartsAs D.drive N.unlogged N.is (renewed I.WIDTH self).log }
-        ensures renewed { IfOk result (λ r. (r.0 ≡ renewed I.WIDTH self) × (r.1 ≡ self.entries) × (renew_refusal I.WIDTH self ≡ None)) }
-        ensures kept { IfErr result (λ e. (e.0 ≡ self) × (renew_refusal I.WIDTH self ≡ Some e.1)) }
-        ensures start { IfErr result (λ e. StartsAs D.drive O.unlogged O.is e.0.log) }
-        ensures world { IfErr result (λ e. HasWorld e.0) }
-        ensures book { IsBook D.drive I.WIDTH self }
-    {
-        let SharedBook { mut book, start: _ } = self;
-        match book.renew(alloc) {
-            Ok(entries) => Ok((
-                SharedBook {
-                    book,
-                    start: PhantomData,
-                },
-                entries,
-            )),
-            Err(cause) => Err((Box::into_inner(book), cause)),
-        }
-    }
-
     /// As the book's call of this name.
     pub(crate) fn room(&self) -> Room
         ensures room { result ≡ room_of self.now }
@@ -132,6 +109,44 @@ impl<I: Index, D: LogDisk, O: Start> SharedBook<I, D, O> {
         Ok(content.world)
     }
 
+    /// As the book's call of this name. A closed book returns its fault.
+    pub(crate) fn content(&self) -> Result<Content, BookFault>
+        ensures world { IfOk result (λ c. c.world ≡ world_after self.now.opening.world self.now.entries) }
+        ensures leaves { IfOk result (λ c. c.leaves ≡ (state_after I.WIDTH self.now.opening self.now.entries).leaves) }
+        ensures comes { IfOk result (λ c. ComesBySplits I.WIDTH c.leaves) }
+        ensures is_world { IfOk result (λ c. IsWorld c.world) }
+        ensures refused { IsRefusedBy IsMemory (closed_refusal self.now.entries) result }
+        ensures book { IsBook D.drive I.WIDTH self.now }
+    {
+        self.check_open()?;
+        Ok(self.book.content()?)
+    }
+
+    /// As the book's call of this name. A closed book returns its fault.
+    pub(crate) fn anew(&self, alloc: Global) -> Result<Anew<I>, BookFault>
+        ensures world { IfOk result (λ a. a.content.world ≡ world_after self.now.opening.world self.now.entries) }
+        ensures leaves { IfOk result (λ a. a.content.leaves ≡ names_of (I.leaves a.index)) }
+        ensures stands { IfOk result (λ a. StandsBySize I.WIDTH self.now.bucket a.content.world (I.leaves a.index)) }
+        ensures comes { IfOk result (λ a. ComesBySplits I.WIDTH a.content.leaves) }
+        ensures is_world { IfOk result (λ a. IsWorld a.content.world) }
+        ensures refused { IsRefusedBy IsMemory (closed_refusal self.now.entries) result }
+        ensures book { IsBook D.drive I.WIDTH self.now }
+    {
+        self.check_open()?;
+        Ok(self.book.anew(alloc)?)
+    }
+
+    // The fault of a closed book.
+    fn check_open(&self) -> Result<(), BookFault>
+        ensures refused { result_err result ≡ closed_refusal self.now.entries }
+        ensures book { IsBook D.drive I.WIDTH self.now }
+    {
+        match self.book.closed() {
+            Some(cell) => Err(BookFault::Closed { cell }),
+            None => Ok(()),
+        }
+    }
+
     /// The leaf to split next, or `None` if no leaf is due.
     pub(crate) fn full(&self) -> Option<Name>
         ensures full { result ≡ full_leaf I.WIDTH self.now.bucket (state_after I.WIDTH self.now.opening self.now.entries) }
@@ -145,10 +160,8 @@ impl<I: Index, D: LogDisk, O: Start> SharedBook<I, D, O> {
         ensures next { TellsFull I.WIDTH self.now result }
         ensures book { IsBook D.drive I.WIDTH self.now }
     {
-        match self.book.closed() {
-            Some(cell) => Err(BookFault::Closed { cell }),
-            None => Ok(self.book.full()),
-        }
+        self.check_open()?;
+        Ok(self.book.full())
     }
 
     /// As the book's call of this name.
@@ -193,7 +206,7 @@ impl<I: Index, D: LogDisk, O: Start> SharedBook<I, D, O> {
         ensures ok { IfOk result (λ s. Notes self.old self.new session row op.now s.place) }
         ensures index { IfOk result (λ s. StandsBefore I.WIDTH self.old self.new (I.leaves s.index)) }
         ensures world { HasWorld self.old }
-        ensures refused { IsRefusedBy IsMemory (call_refusal self.old.entries) result }
+        ensures refused { IsRefusedBy IsMemory (call_refusal self.old.kept self.old.entries) result }
         ensures err { IfErr result (λ _. self.new ≡ self.old) }
         ensures book { AreBooks D.drive I.WIDTH self.old self.new }
     {
@@ -205,7 +218,7 @@ impl<I: Index, D: LogDisk, O: Start> SharedBook<I, D, O> {
     pub(crate) fn note(&mut self, session: u8, row: u32, op: &Op) -> Result<u64, BookFault>
         requires { IsQuery op.now }
         ensures ok { IfOk result (λ place. Notes self.old self.new session row op.now place) }
-        ensures refused { IsRefusedBy IsMemory (call_refusal self.old.entries) result }
+        ensures refused { IsRefusedBy IsMemory (call_refusal self.old.kept self.old.entries) result }
         ensures err { IfErr result (λ _. self.new ≡ self.old) }
         ensures book { AreBooks D.drive I.WIDTH self.old self.new }
     {

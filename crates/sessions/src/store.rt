@@ -6,9 +6,10 @@ ghost use Rattle.sessions.specs.Steps.{all_parts, MayGive, WasTaken, has_entry, 
 
 mod batches;
 mod calls;
+mod contents;
 mod lanes;
+mod looks;
 mod passes;
-mod renewal;
 mod runs;
 mod settling;
 mod splits;
@@ -21,7 +22,6 @@ use commit_book::{Book, BookFault};
 use disk_trait::LogDisk;
 use index_layer::Index;
 pub use lanes::{KeptRow, Lane};
-pub use renewal::{NotRenewed, Renewed};
 use std::alloc::Global;
 use std::marker::Model;
 use std::sync::Wait;

@@ -20,7 +20,7 @@ pub returns-clause-ok : goal.returns-clause-ok
 returns-clause-ok g c = subst (λ (b : BookView g.row.D.Denot). IfOk c.note.result (λ (place : ℕ). Notes b c.note.new.self c.args.session c.args.row c.args.op.now place)) (c.deref_mut.ensures.value ∙ c.self.view_is) c.note.ensures.ok
 
 pub returns-clause-refused : goal.returns-clause-refused
-returns-clause-refused g c = subst (λ (b : BookView g.row.D.Denot). IsRefusedBy IsMemory (call_refusal b.entries) c.note.result) (c.deref_mut.ensures.value ∙ c.self.view_is) c.note.ensures.refused
+returns-clause-refused g c = subst (λ (b : BookView g.row.D.Denot). IsRefusedBy IsMemory (call_refusal b.kept b.entries) c.note.result) (c.deref_mut.ensures.value ∙ c.self.view_is) c.note.ensures.refused
 
 pub returns-clause-err : goal.returns-clause-err
 returns-clause-err g c = subst (λ (b : BookView g.row.D.Denot). IfErr c.note.result (λ _. c.note.new.self ≡ b)) (c.deref_mut.ensures.value ∙ c.self.view_is) c.note.ensures.err

@@ -32,7 +32,7 @@ pub returns-clause-ok : goal.returns-clause-ok
 returns-clause-ok g c = subst (λ (b : BookView g.row.D.Denot). IfOk c.snapshot.result (λ (s : Snapshot g.row.I.Denot g.row.I-Place.Denot). Notes b c.snapshot.new.self c.args.session c.args.row c.args.op.now s.place)) (c.deref_mut.ensures.value ∙ c.self.view_is) c.snapshot.ensures.ok
 
 pub returns-clause-refused : goal.returns-clause-refused
-returns-clause-refused g c = subst (λ (b : BookView g.row.D.Denot). IsRefusedBy IsMemory (call_refusal b.entries) c.snapshot.result) (c.deref_mut.ensures.value ∙ c.self.view_is) c.snapshot.ensures.refused
+returns-clause-refused g c = subst (λ (b : BookView g.row.D.Denot). IsRefusedBy IsMemory (call_refusal b.kept b.entries) c.snapshot.result) (c.deref_mut.ensures.value ∙ c.self.view_is) c.snapshot.ensures.refused
 
 pub returns-clause-err : goal.returns-clause-err
 returns-clause-err g c = subst (λ (b : BookView g.row.D.Denot). IfErr c.snapshot.result (λ _. c.snapshot.new.self ≡ b)) (c.deref_mut.ensures.value ∙ c.self.view_is) c.snapshot.ensures.err

@@ -1,8 +1,6 @@
-use Rattle.std.proofs.Common.{◌≡◌, Ok, Err, Result, ap, sym, subst, ◌∙◌}
+use Rattle.std.proofs.Common.{Ok, Err, sym, subst}
 use Rattle.book_lock.specs.Pass.{Known}
-use Rattle.commit_book.specs.declared.book.batches.BatchDone.{BatchDone}
 use Rattle.sessions.specs.Batches.{Applied}
-use Rattle.sessions.specs.Calls.{call_fault}
 use Rattle.sessions.specs.declared.faults.CallFault.{CallFault}
 use Rattle.sessions.proofs.BatchLemmas.{applied-err, applied-ok, applied-same, batch-fault, may-note-all}
 use Rattle.sessions.proofs.store.Store.apply.Goals as goal

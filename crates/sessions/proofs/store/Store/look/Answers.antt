@@ -19,7 +19,7 @@ give-requires-clause-entries g c =
     let mid = c.snapshot-answer.new.self in
     let op = c.args.request.now.op in
     let was = c.take-book.ensures in
-    (may-give g.D.LogDisk.drive IsMemory (call_refusal b.entries) (λ (s : Snapshot g.row.I.Denot g.row.I-Place.Denot). Call c.args.request.now.session c.args.request.now.row op) (lost.Call c.args.request.now.session c.args.request.now.row op) b mid took was.entries c.snapshot-answer.result
+    (may-give g.D.LogDisk.drive IsMemory (call_refusal b.kept b.entries) (λ (s : Snapshot g.row.I.Denot g.row.I-Place.Denot). Call c.args.request.now.session c.args.request.now.row op) (lost.Call c.args.request.now.session c.args.request.now.row op) b mid took was.entries c.snapshot-answer.result
     (look-step g.I.Index.leaves g.D.LogDisk.drive g.I.Index.WIDTH b mid old took took c.args.request.now.session c.args.request.now.row op was snapshot.book c.snapshot-answer.result snapshot.ok snapshot.refused snapshot.err)
     (says-all (λ (s : Snapshot g.row.I.Denot g.row.I-Place.Denot). MayNote took.seen took.own (Call c.args.request.now.session c.args.request.now.row op)) (λ (s : Snapshot g.row.I.Denot g.row.I-Place.Denot). call-may c.args.request.now.session c.args.request.now.row op took.seen took.own) c.snapshot-answer.result))
 

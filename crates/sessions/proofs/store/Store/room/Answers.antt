@@ -1,6 +1,6 @@
 use Rattle.std.proofs.Common.{sym, ◌∙◌, ap}
 use Rattle.book_lock.specs.Pass.{Known}
-use Rattle.sessions.proofs.Renewals.{room-seen}
+use Rattle.sessions.proofs.Rooms.{room-seen}
 use Rattle.sessions.proofs.store.Store.room.Goals as goal
 
 pub returns-clause-room : goal.returns-clause-room

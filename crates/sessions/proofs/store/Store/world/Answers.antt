@@ -2,7 +2,7 @@ use Rattle.std.proofs.Common.{◌≡◌, sym, ◌∙◌, ap, subst}
 use Rattle.std.specs.Prelude.{IfOk}
 use Rattle.plain_list.specs.World.{World}
 use Rattle.book_lock.specs.Pass.{Known}
-use Rattle.sessions.proofs.Renewals.{world-seen}
+use Rattle.sessions.proofs.Contents.{world-seen}
 use Rattle.sessions.proofs.store.Store.world.Goals as goal
 
 pub returns-clause-world : goal.returns-clause-world

@@ -1,0 +1,18 @@
+use Rattle.std.proofs.Common.{subst}
+use Rattle.plain_list.specs.declared.entries.Entry.{Entry}
+use Rattle.std.specs.Prelude.{List}
+use Rattle.commit_book.specs.Refusals.{IsMemory, IsRefusedBy, closed_refusal}
+use Rattle.sessions.proofs.Contents.{contents-anew, entries-seen}
+use Rattle.sessions.proofs.store.Store.anew.Goals as goal
+
+pub returns-clause-anew : goal.returns-clause-anew
+returns-clause-anew g c =
+    let e = c.anew-anew.ensures in
+    contents-anew g.D.LogDisk.drive g.I.Index.WIDTH c.take-book.result c.args.pass.now c.take-book.new.pass c.put_back.new.pass e.book c.take-book.ensures c.put_back.ensures g.I.Index.leaves c.anew-anew.result
+    e.world e.leaves e.stands e.comes e.is_world
+
+pub returns-clause-refused : goal.returns-clause-refused
+returns-clause-refused g c =
+    let e = c.anew-anew.ensures in
+    subst (λ (h : List Entry). IsRefusedBy IsMemory (closed_refusal h) c.anew-anew.result)
+    (entries-seen g.D.LogDisk.drive g.I.Index.WIDTH c.take-book.result c.args.pass.now c.take-book.new.pass c.put_back.new.pass e.book c.take-book.ensures c.put_back.ensures) e.refused
