@@ -10,7 +10,8 @@ use Rattle.plain_list.specs.declared.entries.Entry.{Entry}
 use Rattle.plain_list.specs.declared.entries.Entry.TheVariants.{Install}
 use Rattle.plain_list.specs.State.{IsLegal}
 use Rattle.csv_rows.specs.declared.rows.InRow.{InRow}
-use Rattle.commit_book.specs.Refusals.{has_no_room}
+use Rattle.commit_book.specs.IsBook.{most_events}
+use Rattle.commit_book.specs.Refusals.{has_no_room, most_events_to_begin}
 use Rattle.book_lock.specs.Pass.{Known}
 use Rattle.book_lock.specs.declared.origin.Origin.{Origin}
 use Rattle.book_lock.proofs.Histories.{prefix_refl, prefix_length}
@@ -117,25 +118,25 @@ below-zero g (suc n) p none less = by_order (g n) (omega arith) (below-zero g n 
         by_case (inr less) = more less
 
 -- a begin that isn't without room had room
-had-room : (cells events : ℕ) → ◌≡◌ {A = ℕ} (cond (has_no_room cells events) 1 0) 0 → (events ≤ 4000000) × (cells ≤ 16000000)
-had-room cells events none = by_tests (nat_lt 16000000 cells) (nat_lt 4000000 events) refl refl none
+had-room : (kept : Bool) (cells events : ℕ) → ◌≡◌ {A = ℕ} (cond (has_no_room kept cells events) 1 0) 0 → (events ≤ most_events_to_begin kept) × (cells ≤ 16000000)
+had-room kept cells events none = by_tests (nat_lt 16000000 cells) (nat_lt (most_events_to_begin kept) events) refl refl none
   where
-    by_tests : (a b : Bool) → nat_lt 16000000 cells ≡ a → nat_lt 4000000 events ≡ b → ◌≡◌ {A = ℕ} (cond (a || b) 1 0) 0 → (events ≤ 4000000) × (cells ≤ 16000000)
+    by_tests : (a b : Bool) → nat_lt 16000000 cells ≡ a → nat_lt (most_events_to_begin kept) events ≡ b → ◌≡◌ {A = ℕ} (cond (a || b) 1 0) 0 → (events ≤ most_events_to_begin kept) × (cells ≤ 16000000)
     by_tests true b is other none = absurd (cc none)
     by_tests false true other is none = absurd (cc none)
-    by_tests false false few less none = (ltb-false 4000000 events less, ltb-false 16000000 cells few)
+    by_tests false false few less none = (ltb-false (most_events_to_begin kept) events less, ltb-false 16000000 cells few)
 
-begin-room : (origin : Origin) (h : List Entry) (n : ℕ) → n < length h → 1 ≤ at begins h n → at begins h n * bad origin h n ≡ 0 → (n ≤ 4000000) × (cells_at origin (take n h) ≤ 16000000)
+begin-room : (origin : Origin) (h : List Entry) (n : ℕ) → n < length h → 1 ≤ at begins h n → at begins h n * bad origin h n ≡ 0 → (n ≤ most_events_to_begin origin.kept) × (cells_at origin (take n h) ≤ 16000000)
 begin-room origin h n less begun none =
     let kind = one-at h n less in
     let one : at begins h n ≡ 1 = omega arith in
     let scaled : at begins h n * bad origin h n ≡ 1 * bad origin h n = ap (λ (k : ℕ). k * bad origin h n) one in
-    had-room (cells_at origin (take n h)) n (omega arith)
+    had-room origin.kept (cells_at origin (take n h)) n (omega arith)
 
 -- what is known of the whole history
 record AreBelow (origin : Origin) (h : List Entry) (most : ℕ) : Type 0 where
   pub fair : (n : ℕ) → n ≤ length h → all_below (at begins h) n ≤ all_below (at calls h) n + all_below (at ends h) n + 1
-  pub room : (n : ℕ) → n < length h → 1 ≤ at begins h n → (n ≤ 4000000) × (cells_at origin (take n h) ≤ 16000000)
+  pub room : (n : ℕ) → n < length h → 1 ≤ at begins h n → (n ≤ most_events_to_begin origin.kept) × (cells_at origin (take n h) ≤ 16000000)
   pub few : all_below (at calls h) (length h) ≤ most
   pub alone : FailsAlone h
 
@@ -192,6 +193,11 @@ module _ (w : ℕ) (origin : Origin) (h : List Entry) (legal : IsLegal w (start_
       let calls_few = below.few in
       omega arith
 
+-- so many entries more are still fewer than the most, for each kind of history
+below-most : (kept : Bool) (n rows : ℕ) → rows ≤ 65536 → n ≤ most_events_to_begin kept + 3 + 2 * rows → n < most_events kept
+below-most true n rows few less = omega arith
+below-most false n rows few less = omega arith
+
 pub bounded : {I D O P : Type 0} (w : ℕ) (origin : Origin) (rows : List InRow) (sessions : List ℕ) (lanes : List (Lane I D O P)) (last : Known) → IsPlayedOut w origin rows sessions lanes last
     → IsLegal w (start_of origin) last.seen → length rows ≤ 65536 → cells_at origin [] ≤ 16000000 → IsBounded origin last.seen
 bounded w origin rows sessions lanes last out legal few_rows few_cells =
@@ -200,8 +206,8 @@ bounded w origin rows sessions lanes last out legal few_rows few_cells =
     record {
       short = λ g pre.
           let le = prefix_length g h pre in
-          let small = size-below w origin h legal (length rows) below 4000000 (λ n. n) (omega arith) (λ n less. omega arith) (λ n less begun. (below.room n less begun).0) (length g) le in
-          omega arith;
+          let small = size-below w origin h legal (length rows) below (most_events_to_begin origin.kept) (λ n. n) (omega arith) (λ n less. omega arith) (λ n less begun. (below.room n less begun).0) (length g) le in
+          below-most origin.kept (length g) (length rows) few_rows small;
       few = λ g pre.
           let le = prefix_length g h pre in
           let small = size-below w origin h legal (length rows) below 16000000 (λ n. cells_at origin (take n h)) (omega arith) (next-cells origin h) (λ n less begun. (below.room n less begun).1) (length g) le in

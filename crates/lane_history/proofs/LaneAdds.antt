@@ -86,7 +86,7 @@ call-sound : (w s row : ℕ) (op : Op) (old new : Known) (cell : ℕ) (c : Calle
 call-sound w s row op old new cell c =
     let cells = cells_at old.origin c.before in
     let none = answered-none op (call_cause old.origin op cells c.before) cell (call_cause-disk cell old.origin op cells c.before) c.answered in
-    not-closed c.before (first-front (closed_refusal c.before) _ (first-front (call_refusal c.before) _ none))
+    not-closed c.before (first-front (closed_refusal c.before) _ (first-front (call_refusal old.origin.kept c.before) _ none))
 
 -- how a lane ends behind the rows that it kept: with a call more that it didn't keep, or none
 record StopsWith (w s : ℕ) (rows front : List (ℕ × Op)) (mid new : Known) (fault : Option CallFault) : Type 0 where

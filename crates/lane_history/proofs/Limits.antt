@@ -1,9 +1,8 @@
 -- However lanes end, the begins of their history are few.
-use Rattle.std.proofs.Common.{◌≡◌, ◌⊎◌, inl, inr, ℕ, ◌+◌, ◌≤◌, List, [], ◌∷◌, ◌++◌, length, Ok, Err, Result, refl, sym, ap, subst, ◌∙◌, arith}
+use Rattle.std.proofs.Common.{◌≡◌, ◌⊎◌, inl, inr, ℕ, ◌+◌, ◌<◌, ◌≤◌, Bool, List, [], ◌∷◌, ◌++◌, length, Ok, Err, Result, refl, sym, ap, subst, ◌∙◌, arith}
 use Rattle.std.proofs.lemmas.List.{append-nil, take_all}
 use Rattle.plain_list.specs.declared.entries.Entry.{Entry}
 use Rattle.plain_list.specs.declared.entries.Entry.TheVariants.{Fail, Call, Begin, Install, Abandon}
-use Rattle.plain_list.specs.declared.entries.Lost.TheVariants as lost
 use Rattle.plain_list.specs.History.{call_count}
 use Rattle.plain_list.specs.Played.{IsPlayedWhole}
 use Rattle.plain_list.specs.State.{IsLegal}
@@ -11,15 +10,15 @@ use Rattle.csv_rows.specs.declared.rows.InRow.{InRow}
 use Rattle.book_lock.specs.Pass.{Known}
 use Rattle.book_lock.specs.declared.origin.Origin.{Origin}
 use Rattle.book_lock.proofs.Histories.{prefix_refl}
+use Rattle.commit_book.specs.IsBook.{most_events}
 use Rattle.sessions.specs.Shared.{start_of, first_cells}
-use Rattle.sessions.specs.Steps.{cells_at}
 use Rattle.commit_book.specs.declared.faults.BookFault.{BookFault}
 use Rattle.sessions.specs.declared.faults.Settled.{Settled}
 use Rattle.sessions.specs.declared.store.lanes.Lane.{Lane}
 use Rattle.lane_history.specs.SessionRows.{session_rows}
 use Rattle.lane_history.specs.Lanes.{IsPlayedOut, GoesOn, SettlesAfter}
 use Rattle.lane_history.proofs.PlayedOut.{whole}
-use Rattle.lane_history.specs.Settled.{IsWithinLimits, begin_count, stray_begins}
+use Rattle.lane_history.specs.Settled.{IsWithinLimits, IsPlayStart, begin_count, stray_begins}
 use Rattle.lane_history.proofs.Weights.{weight-all, at, below-take, sum_of}
 use Rattle.lane_history.proofs.Entries.{begins, calls, calls-count}
 use Rattle.lane_history.proofs.Settled.{lanes-begins, few-stray}
@@ -79,8 +78,8 @@ module _ {I D O P : Type 0} (w : ℕ) (origin : Origin) (rows : List InRow) (ses
   by_end (inr after) = (settled-stray after, inr (whole w origin rows sessions lanes last out after.calm))
 
   -- However the lanes end, their history stays within its limits.
-  pub within_limits : IsLegal w (start_of origin) last.seen → length rows ≤ 65536 → cells_at origin [] ≤ 16000000 → IsWithinLimits w origin.bucket (start_of origin) (first_cells origin) rows last.seen
-  within_limits legal few_rows few_cells =
-      let limits = bounded w origin rows sessions lanes last out legal few_rows few_cells in
+  pub within_limits : IsLegal w (start_of origin) last.seen → length rows ≤ 65536 → IsPlayStart origin → IsWithinLimits w origin.bucket (start_of origin) (first_cells origin) rows last.seen
+  within_limits legal few_rows start =
+      let limits = bounded w origin rows sessions lanes last out legal few_rows start.few in
       let ends = by_end out.goes_on in
-      record { entries = limits.short last.seen (prefix_refl last.seen); cells = limits.few last.seen (prefix_refl last.seen); stray = ends.0; begins = ends.1 }
+      record { entries = subst (λ (k : Bool). length last.seen < most_events k) start.kept (limits.short last.seen (prefix_refl last.seen)); cells = limits.few last.seen (prefix_refl last.seen); stray = ends.0; begins = ends.1 }

@@ -1,21 +1,23 @@
 -- What the splits of lanes that were played and settled come to.
-use Rattle.std.proofs.Common.{◌≡◌, ℕ, ◌+◌, ◌≤◌, List, [], ◌++◌, length, None, Ok, ap, ◌∙◌, arith}
+use Rattle.std.proofs.Common.{◌≡◌, ◌⊎◌, ℕ, ◌+◌, ◌<◌, ◌≤◌, Bool, List, [], ◌++◌, length, None, Ok, ap, subst, ◌∙◌, arith}
 use mathlib.Core.List.{IsPrefix}
 use Rattle.std.proofs.lemmas.List.{take_all, nil_from_length}
 use Rattle.plain_list.specs.declared.entries.Entry.{Entry}
-use Rattle.plain_list.specs.History.{call_count, failed_cell}
+use Rattle.plain_list.specs.History.{call_count, failed_cell, world_after}
+use Rattle.plain_list.specs.Size.{IsSized}
 use Rattle.plain_list.specs.State.{IsLegal, state_after}
 use Rattle.csv_rows.specs.declared.rows.InRow.{InRow}
 use Rattle.book_lock.specs.Pass.{Known}
 use Rattle.book_lock.specs.declared.origin.Origin.{Origin}
 use Rattle.book_lock.proofs.Histories.{prefix_refl, prefix_length}
 use Rattle.sessions.specs.Shared.{start_of, first_cells}
+use Rattle.commit_book.specs.Refusals.{most_events_to_begin}
 use Rattle.sessions.specs.Steps.{all_parts, cells_at}
 use Rattle.sessions.specs.Settles.{Settles}
 use Rattle.sessions.specs.declared.faults.Settled.{Settled}
 use Rattle.sessions.specs.declared.store.lanes.Lane.{Lane}
 use Rattle.lane_history.specs.Lanes.{IsPlayedOut, OwnsAll}
-use Rattle.lane_history.specs.Settled.{SplitsAreDone, stray_begins}
+use Rattle.lane_history.specs.Settled.{SplitsAreDone, IsPlayStart, stray_begins}
 use Rattle.lane_history.proofs.Weights.{weight-all, at, below-take, sum_of}
 use Rattle.lane_history.proofs.Entries.{begins, calls, ends, calls-count, sum-append, open-few}
 use Rattle.lane_history.proofs.Steps.{IsCalm, take-prefix}
@@ -66,13 +68,13 @@ few-stray w origin most pass last goes few =
     omega arith
 
 pub settled : {I D O P : Type 0} (w : ℕ) (origin : Origin) (rows : List InRow) (sessions : List ℕ) (lanes : List (Lane I D O P)) (last : Known) (s : Settled) → (out : IsPlayedOut w origin rows sessions lanes last)
-    → out.pass.parts ≡ all_parts → Settles w out.pass last (Ok s) → IsLegal w (start_of origin) last.seen → length rows ≤ 65536 → cells_at origin [] ≤ 16000000 → failed_cell last.seen ≡ None
+    → out.pass.parts ≡ all_parts → Settles w out.pass last (Ok s) → IsLegal w (start_of origin) last.seen → length rows ≤ 65536 → IsPlayStart origin → failed_cell last.seen ≡ None
     → SplitsAreDone w origin.bucket (start_of origin) (first_cells origin) last.seen
-settled w origin rows sessions lanes last s out all settles legal few_rows few_cells going =
+settled w origin rows sessions lanes last s out all settles legal few_rows start going =
     let h = last.seen in
     let pass = out.pass in
     let from = out.joined.begins in
-    let limits = bounded w origin rows sessions lanes last out legal few_rows few_cells in
+    let limits = bounded w origin rows sessions lanes last out legal few_rows start.few in
     let calm : IsCalm origin h = record { going = going; bounded = limits } in
     let join = joined w origin rows sessions lanes last out in
     let pairs = settles-well w origin h pass last s from settles (prefix_refl h) in
@@ -82,7 +84,8 @@ settled w origin rows sessions lanes last s out all settles legal few_rows few_c
     record {
       ended = ended;
       going = going;
-      sized = ended-sized w origin settles.mid last s (ap (λ (k : Known). k.origin) same.1 ∙ from) (ap (λ (k : Known). k.parts) same.1 ∙ all) settles.ends ended;
+      sized = subst (λ (k : Bool). IsSized w origin.bucket (world_after origin.world h) (state_after w (start_of origin) h).leaves ⊎ ((most_events_to_begin k < length h) ⊎ (16000000 < cells_at origin h))) start.kept
+          (ended-sized w origin settles.mid last s (ap (λ (k : Known). k.origin) same.1 ∙ from) (ap (λ (k : Known). k.parts) same.1 ∙ all) settles.ends ended);
       stray =
           let few = few-stray w origin 0 pass last (goes-stray w origin pass last (Ok s) from all settles) (lanes-begins (Unit {0}) origin pass last (length rows) join pairs out.whole pre) in
           omega arith;

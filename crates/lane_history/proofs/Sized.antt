@@ -10,7 +10,7 @@ use Rattle.plain_list.specs.History.{world_after, failed_cell}
 use Rattle.plain_list.specs.State.{State, is_leaf, state_after}
 use Rattle.plain_list.specs.Size.{full_leaf, IsSized}
 use Rattle.plain_list.proofs.Histories.{state_after-world}
-use Rattle.commit_book.specs.Refusals.{IsRefusedBy, IsMemoryOrDisk, first_of, closed_refusal, room_refusal, leaf_refusal, split_number}
+use Rattle.commit_book.specs.Refusals.{IsRefusedBy, IsMemoryOrDisk, first_of, closed_refusal, room_refusal, leaf_refusal, split_number, most_events_to_begin}
 use Rattle.commit_book.specs.declared.faults.BookFault.{BookFault}
 use Rattle.commit_book.specs.declared.faults.BookFault.TheVariants as book
 use Rattle.commit_book.proofs.SizedLeaves.{sized-none}
@@ -69,12 +69,12 @@ room-cause None None c first last is = absurd (true≢false (sym is ∙ last))
 closed-other : (h : List Entry) → for_room (closed_refusal h) ≡ false
 closed-other h = map-other book.Closed (failed_cell h) (λ n. refl)
 
-past-room : (cells events : ℕ) → for_room (room_refusal cells events) ≡ true → (4000000 < events) ⊎ (16000000 < cells)
-past-room cells events is = by_tests (nat_lt 16000000 cells) (nat_lt 4000000 events) refl refl is
+past-room : (kept : Bool) (cells events : ℕ) → for_room (room_refusal kept cells events) ≡ true → (most_events_to_begin kept < events) ⊎ (16000000 < cells)
+past-room kept cells events is = by_tests (nat_lt 16000000 cells) (nat_lt (most_events_to_begin kept) events) refl refl is
   where
-    by_tests : (a b : Bool) → nat_lt 16000000 cells ≡ a → nat_lt 4000000 events ≡ b → for_room (cond (a || b) (Some (book.Room cells events)) None) ≡ true → (4000000 < events) ⊎ (16000000 < cells)
+    by_tests : (a b : Bool) → nat_lt 16000000 cells ≡ a → nat_lt (most_events_to_begin kept) events ≡ b → for_room (cond (a || b) (Some (book.Room cells events)) None) ≡ true → (most_events_to_begin kept < events) ⊎ (16000000 < cells)
     by_tests true b many other is = inr (ltb-true 16000000 cells many)
-    by_tests false true few many is = inl (ltb-true 4000000 events many)
+    by_tests false true few many is = inl (ltb-true (most_events_to_begin kept) events many)
     by_tests false false few less is = absurd (true≢false (sym is))
 
 refused-room : (cause : Option BookFault) (cells events : ℕ) → IsRefusedBy {A = ℕ} IsMemoryOrDisk cause (Err (book.Room cells events)) → for_room cause ≡ true
@@ -83,7 +83,7 @@ refused-room None cells events (inr disk) = absurd disk
 refused-room (Some cause) cells events is = let same : book.Room cells events ≡ cause = cc is in ap is_room (sym same)
 
 pub ended-sized : (w : ℕ) (origin : Origin) (mid last : Known) (s : Settled) → mid.origin ≡ origin → mid.parts ≡ all_parts → SettleEnds w mid last (Ok s) → (state_after w (start_of origin) last.seen).splits ≡ []
-    → IsSized w origin.bucket (world_after origin.world last.seen) (state_after w (start_of origin) last.seen).leaves ⊎ ((4000000 < length last.seen) ⊎ (16000000 < cells_at origin last.seen))
+    → IsSized w origin.bucket (world_after origin.world last.seen) (state_after w (start_of origin) last.seen).leaves ⊎ ((most_events_to_begin origin.kept < length last.seen) ⊎ (16000000 < cells_at origin last.seen))
 ended-sized w origin mid last Small from all (tells, same) ended =
     let none : full_leaf w origin.bucket (state_after w (start_of origin) last.seen) ≡ None =
     (λ i. full_leaf w (sym from i).bucket (state_after w (start_of (sym from i)) (same i).seen)) ∙ sym tells.1 in
@@ -92,6 +92,6 @@ ended-sized w origin mid last Room from all (name, full, cells, events, begins) 
     let seen : begins.before ≡ last.seen = begins.alone all ∙ sym (end-seen w mid last Room all (name, full, cells, events, begins)) in
     let there = cells_at mid.origin begins.before in
     let cause = refused-room (begin_cause w mid.origin name there begins.before) cells events begins.refused in
-    let room = room-cause (closed_refusal begins.before) (room_refusal there (length begins.before)) (leaf_refusal w (state_of w mid.origin begins.before) name)
+    let room = room-cause (closed_refusal begins.before) (room_refusal mid.origin.kept there (length begins.before)) (leaf_refusal w (state_of w mid.origin begins.before) name)
     (closed-other begins.before) (leaf-other w (state_of w mid.origin begins.before) name) cause in
-    inr (subst (λ (n : ℕ). (4000000 < length last.seen) ⊎ (16000000 < n)) (λ i. cells_at (from i) (seen i)) (subst (λ (h : List Entry). (4000000 < length h) ⊎ (16000000 < there)) seen (past-room there (length begins.before) room)))
+    inr (subst (λ (z : Origin × List Entry). (most_events_to_begin z.0.kept < length z.1) ⊎ (16000000 < cells_at z.0 z.1)) (λ i. (from i, seen i)) (past-room mid.origin.kept there (length begins.before) room))

@@ -85,17 +85,17 @@ module _ (cell : ℕ) where
   begin-disk : (w : ℕ) (origin : Origin) (name : List Bool) (cells : ℕ) (before : List Entry) → NoDisk (begin_cause w origin name cells before)
   begin-disk w origin name cells before =
       first-disk (closed_refusal before) _ (closed-disk (failed_cell before))
-      (first-disk (room_refusal cells (length before)) _ (cond-disk (has_no_room cells (length before)) (Room cells (length before)) None (λ e. cc e) none-disk) (leaf-disk w (state_of w origin before) name))
+      (first-disk (room_refusal origin.kept cells (length before)) _ (cond-disk (has_no_room origin.kept cells (length before)) (Room cells (length before)) None (λ e. cc e) none-disk) (leaf-disk w (state_of w origin before) name))
 
-  call-disk : (before : List Entry) → NoDisk (call_refusal before)
-  call-disk before = first-disk (closed_refusal before) (events_refusal before) (closed-disk (failed_cell before)) (cond-disk (length before == most_events) HistoryFull None (λ e. cc e) none-disk)
+  call-disk : (kept : Bool) (before : List Entry) → NoDisk (call_refusal kept before)
+  call-disk kept before = first-disk (closed_refusal before) (events_refusal kept before) (closed-disk (failed_cell before)) (cond-disk (length before == most_events kept) HistoryFull None (λ e. cc e) none-disk)
 
   pub call_cause-disk : (origin : Origin) (op : Op) (cells : ℕ) (before : List Entry) → NoDisk (call_cause origin op cells before)
   call_cause-disk origin op cells before =
-      first-disk (call_refusal before) _ (call-disk before) (cond-disk ((cells == most_cells) && is_change (answer_of (world_after origin.world before) op)) LogFull None (λ e. cc e) none-disk)
+      first-disk (call_refusal origin.kept before) _ (call-disk origin.kept before) (cond-disk ((cells == most_cells) && is_change (answer_of (world_after origin.world before) op)) LogFull None (λ e. cc e) none-disk)
 
-  end-disk : (cells : ℕ) (before : List Entry) → NoDisk (end_refusal cells before)
-  end-disk cells before = first-disk (call_refusal before) _ (call-disk before) (cond-disk (cells == most_cells) LogFull None (λ e. cc e) none-disk)
+  end-disk : (kept : Bool) (cells : ℕ) (before : List Entry) → NoDisk (end_refusal kept cells before)
+  end-disk kept cells before = first-disk (call_refusal kept before) _ (call-disk kept before) (cond-disk (cells == most_cells) LogFull None (λ e. cc e) none-disk)
 
   -- so a step that meets it is refused for no cause
   no-cause : (A : Type 0) (IsFree : BookFault → Type 0) (cause : Option BookFault) → NoDisk cause → IsRefusedBy {A = A} IsFree cause (Err (Disk cell)) → cause ≡ None
@@ -147,28 +147,28 @@ begins-quiet w name old new r step =
         let s = state_of w old.origin step.before in
         let refused : IsRefusedBy IsMemoryOrDisk (begin_cause w old.origin name (cells_at old.origin step.before) step.before) (Err (Disk cell)) = subst (λ (x : Result ℕ BookFault). IsRefusedBy IsMemoryOrDisk (begin_cause w old.origin name (cells_at old.origin step.before) step.before) x) is step.refused in
         let none = no-cause cell ℕ IsMemoryOrDisk (begin_cause w old.origin name (cells_at old.origin step.before) step.before) (begin-disk cell w old.origin name (cells_at old.origin step.before) step.before) refused in
-        let leaf : leaf_refusal w s name ≡ None = first-none (room_refusal (cells_at old.origin step.before) (length step.before)) (leaf_refusal w s name) (first-none (closed_refusal step.before) _ none) in (
+        let leaf : leaf_refusal w s name ≡ None = first-none (room_refusal old.origin.kept (cells_at old.origin step.before) (length step.before)) (leaf_refusal w s name) (first-none (closed_refusal step.before) _ none) in (
           and_from _ (not (is_splitting s.splits name)) (and_from _ (may_split w s name) (eq-eqb (s.begun + 1) (s.begun + 1) refl) (leaf-may w s name leaf)) (leaf-free w s name leaf),
           not-closed step.before (first-front (closed_refusal step.before) _ none),
         )
 
 -- behind the end of a split that was lost no append had failed
-end-sound : (IsFree : BookFault → Type 0) (r : Result (Unit {0}) BookFault) (cells : ℕ) (before : List Entry) (cell : ℕ) → r ≡ Err (Disk cell)
-    → IsRefusedBy IsFree (end_refusal cells before) r → failed_cell before ≡ None
-end-sound IsFree r cells before cell is refused =
-    let none = no-cause cell (Unit {0}) IsFree (end_refusal cells before) (end-disk cell cells before) (subst (λ (x : Result (Unit {0}) BookFault). IsRefusedBy IsFree (end_refusal cells before) x) is refused) in
-    not-closed before (first-front (closed_refusal before) _ (first-front (call_refusal before) _ none))
+end-sound : (IsFree : BookFault → Type 0) (r : Result (Unit {0}) BookFault) (kept : Bool) (cells : ℕ) (before : List Entry) (cell : ℕ) → r ≡ Err (Disk cell)
+    → IsRefusedBy IsFree (end_refusal kept cells before) r → failed_cell before ≡ None
+end-sound IsFree r kept cells before cell is refused =
+    let none = no-cause cell (Unit {0}) IsFree (end_refusal kept cells before) (end-disk cell kept cells before) (subst (λ (x : Result (Unit {0}) BookFault). IsRefusedBy IsFree (end_refusal kept cells before) x) is refused) in
+    not-closed before (first-front (closed_refusal before) _ (first-front (call_refusal kept before) _ none))
 
 -- its end
 pub installs-quiet : (w number : ℕ) (old new : Known) (r : Result (Unit {0}) BookFault) → InstallsSplit w number old new r → AddsQuiet (SplitLost w old) old new
 installs-quiet w number old new r ends =
     step-quiet (SplitLost w old) (λ (done : Unit {0}). Install number) (λ before. lost.Install number) old new ends.step.before ends.step.later r (λ done. tt) (λ done t. refl)
-    (λ cell is. (ends.is_open, end-sound IsMemoryOrDisk r (cells_at old.origin ends.step.before) ends.step.before cell is ends.step.refused)) ends.step.leaves
+    (λ cell is. (ends.is_open, end-sound IsMemoryOrDisk r old.origin.kept (cells_at old.origin ends.step.before) ends.step.before cell is ends.step.refused)) ends.step.leaves
 
 pub abandons-quiet : (w number : ℕ) (old new : Known) (r : Result (Unit {0}) BookFault) → AbandonsSplit w number old new r → AddsQuiet (SplitLost w old) old new
 abandons-quiet w number old new r ends =
     step-quiet (SplitLost w old) (λ (done : Unit {0}). Abandon number) (λ before. lost.Abandon number) old new ends.step.before ends.step.later r (λ done. tt) (λ done t. refl)
-    (λ cell is. (ends.is_open, end-sound IsDisk r (cells_at old.origin ends.step.before) ends.step.before cell is ends.step.refused)) ends.step.leaves
+    (λ cell is. (ends.is_open, end-sound IsDisk r old.origin.kept (cells_at old.origin ends.step.before) ends.step.before cell is ends.step.refused)) ends.step.leaves
 
 -- one after the other
 pub quiet-then : (w : ℕ) (old mid new : Known) → AddsQuiet (SplitLost w old) old mid → AddsQuiet (SplitLost w mid) mid new → AddsQuiet (SplitLost w old) old new

@@ -10,7 +10,7 @@ use Rattle.plain_list.specs.declared.entries.Entry.TheVariants.{Fail, Call, Begi
 use Rattle.plain_list.specs.declared.entries.Lost.{Lost}
 use Rattle.plain_list.specs.History.{failed_cell}
 use Rattle.commit_book.specs.IsBook.{most_events}
-use Rattle.commit_book.specs.Refusals.{IsRefusedBy, IsDisk, IsMemoryOrDisk, first_of, closed_refusal, room_refusal, end_refusal, leaf_refusal, has_no_room, most_cells}
+use Rattle.commit_book.specs.Refusals.{IsRefusedBy, IsDisk, IsMemoryOrDisk, first_of, closed_refusal, room_refusal, end_refusal, leaf_refusal, has_no_room, most_cells, most_events_to_begin}
 use Rattle.commit_book.specs.declared.faults.BookFault.{BookFault}
 use Rattle.commit_book.specs.declared.faults.BookFault.TheVariants as book
 use Rattle.book_lock.specs.Pass.{Known}
@@ -24,7 +24,7 @@ use Rattle.lane_history.proofs.Gains.{Puts, Idles}
 
 -- 1 where so many entries and cells leave no room for the begin of a split
 abbrev pub bad : Origin → List Entry → ℕ → ℕ
-bad origin h p = if has_no_room (cells_at origin (take p h)) p then 1 else 0
+bad origin h p = if has_no_room origin.kept (cells_at origin (take p h)) p then 1 else 0
 
 -- no append failed, and the history is far from its limits
 pub record IsCalm (origin : Origin) (h : List Entry) : Type 0 where
@@ -137,22 +137,22 @@ going-last (Install number ∷ g) cell step none = going-last g cell step none
 going-last (Abandon number ∷ g) cell step none = going-last g cell step none
 
 -- in a calm history no end of a split is refused
-calm-end : (origin : Origin) (h before : List Entry) → IsCalm origin h → IsPrefix before h → end_refusal (cells_at origin before) before ≡ None
+calm-end : (origin : Origin) (h before : List Entry) → IsCalm origin h → IsPrefix before h → end_refusal origin.kept (cells_at origin before) before ≡ None
 calm-end origin h before calm pre =
     let cells = cells_at origin before in
     let going : failed_cell before ≡ None = going-begin before h pre calm.going in
     let short = calm.bounded.short before pre in
     let few = calm.bounded.few before pre in
-    let events : (length before == most_events) ≡ false = ne_eqb (length before) most_events (λ (e : length before ≡ most_events). omega arith) in
+    let events : (length before == most_events origin.kept) ≡ false = ne_eqb (length before) (most_events origin.kept) (λ (e : length before ≡ most_events origin.kept). omega arith) in
     let full : (cells == most_cells) ≡ false = ne_eqb cells most_cells (λ (e : cells ≡ most_cells). omega arith) in
     λ i. first_of (first_of (option_map book.Closed (going i)) (cond (events i) (Some book.HistoryFull) None)) (cond (full i) (Some book.LogFull) None)
 
 -- so an end that isn't done fails the history's calm, unless the fault is free to come and no failure of the drive
 pub calm-not : {A : Type 0} (IsFree : BookFault → Type 0) (entry : A → Entry) (lost : List Entry → Lost) (P : List Entry → A → Type 0) (origin : Origin) (h : List Entry) (old new : Known) (fault : BookFault) → old.origin ≡ origin
-    → IsStep IsFree (λ (cells : ℕ) (before : List Entry). end_refusal cells before) entry lost P old new (Err fault) → (IsFree fault → IsDisk fault) → IsPrefix new.seen h → IsCalm origin h → ⊥
+    → IsStep IsFree (λ (cells : ℕ) (before : List Entry). end_refusal old.origin.kept cells before) entry lost P old new (Err fault) → (IsFree fault → IsDisk fault) → IsPrefix new.seen h → IsCalm origin h → ⊥
 calm-not {A} IsFree entry lost P origin h old new fault from step disk pre calm =
     let before = left-before entry lost h old step.before new fault step.leaves pre in
-    let none : end_refusal (cells_at old.origin step.before) step.before ≡ None = ap (λ (o : Origin). end_refusal (cells_at o step.before) step.before) from ∙ calm-end origin h step.before calm before in
+    let none : end_refusal old.origin.kept (cells_at old.origin step.before) step.before ≡ None = ap (λ (o : Origin). end_refusal o.kept (cells_at o step.before) step.before) from ∙ calm-end origin h step.before calm before in
     let free : IsFree fault = subst (λ (o : Option BookFault). IsRefusedBy {A = A} IsFree o (Err fault)) none step.refused in
     let (cell, is) = left-disk entry lost h old step.before new fault (disk free) step.leaves in
     going-last step.before cell (lost step.before) (ap failed_cell (sym (seen-added old new step.before (Fail cell (lost step.before)) is)) ∙ going-begin new.seen h pre calm.going)
@@ -167,17 +167,18 @@ no-cause None None c none = refl
 no-cause None (Some cause) c none = absurd (cc none)
 no-cause (Some cause) b c none = absurd (cc none)
 
-not-bad : (origin : Origin) (h before : List Entry) → IsPrefix before h → length before ≤ 4000000 → cells_at origin before ≤ 16000000 → bad origin h (length before) ≡ 0
+not-bad : (origin : Origin) (h before : List Entry) → IsPrefix before h → length before ≤ most_events_to_begin origin.kept → cells_at origin before ≤ 16000000 → bad origin h (length before) ≡ 0
 not-bad origin h before pre less few =
     let cells : nat_lt 16000000 (cells_at origin before) ≡ false = le-ltb 16000000 (cells_at origin before) few in
-    let events : nat_lt 4000000 (length before) ≡ false = le-ltb 4000000 (length before) less in
-    ap (λ (g : List Entry). cond (has_no_room (cells_at origin g) (length before)) 1 0) (take-prefix before h pre) ∙ (λ i. cond (cells i || events i) 1 0)
+    let events : nat_lt (most_events_to_begin origin.kept) (length before) ≡ false = le-ltb (most_events_to_begin origin.kept) (length before) less in
+    ap (λ (g : List Entry). cond (has_no_room origin.kept (cells_at origin g) (length before)) 1 0) (take-prefix before h pre) ∙ (λ i. cond (cells i || events i) 1 0)
 
 pub begun-room : (w : ℕ) (origin : Origin) (h : List Entry) (name : List Bool) (old new : Known) (number : ℕ) → old.origin ≡ origin → (begins : BeginsSplit w name old new (Ok number)) → IsPrefix new.seen h
     → bad origin h (length begins.before) ≡ 0
 begun-room w origin h name old new number from begins pre =
     let cells = cells_at old.origin begins.before in
     let none : begin_cause w old.origin name cells begins.before ≡ None = allowed (begin_cause w old.origin name cells begins.before) number begins.refused in
-    let room = has-room cells (length begins.before) (no-cause (closed_refusal begins.before) (room_refusal cells (length begins.before)) (leaf_refusal w (state_of w old.origin begins.before) name) none) in
+    let room = has-room old.origin.kept cells (length begins.before) (no-cause (closed_refusal begins.before) (room_refusal old.origin.kept cells (length begins.before)) (leaf_refusal w (state_of w old.origin begins.before) name) none) in
     let few : cells_at origin begins.before ≤ 16000000 = subst (λ (o : Origin). cells_at o begins.before ≤ 16000000) from room.1 in
-    not-bad origin h begins.before (before-added h old new begins.before (Begin number name) begins.leaves pre) room.0 few
+    let less : length begins.before ≤ most_events_to_begin origin.kept = subst (λ (o : Origin). length begins.before ≤ most_events_to_begin o.kept) from room.0 in
+    not-bad origin h begins.before (before-added h old new begins.before (Begin number name) begins.leaves pre) less few

@@ -1,5 +1,5 @@
 -- What the splits of lanes lead to.
-use Rattle.std.specs.Prelude.{◌≡◌, ◌⊎◌, ℕ, suc, ◌+◌, ◌<◌, ◌≤◌, ◌==◌, Bool, false, not, ◌||◌, List, [], ◌∷◌, length, if◌then◌else◌, Option, None}
+use Rattle.std.specs.Prelude.{◌≡◌, ◌⊎◌, ℕ, suc, ◌+◌, ◌<◌, ◌≤◌, ◌==◌, Bool, true, false, not, ◌||◌, List, [], ◌∷◌, length, if◌then◌else◌, Option, None}
 use mathlib.Core.List.{IsPrefix}
 use Rattle.std.specs.List.{list_any}
 use Rattle.std.specs.Option.{option_map_or}
@@ -56,12 +56,17 @@ begin_count (_ ∷ h) = begin_count h
 -- However the rows ended, their history and its log stay below their limits. Stray begins are at most one more than the
 -- calls. There are no more begins than calls, unless each row was called, since only then splits at the end begin.
 pub record IsWithinLimits (w size : ℕ) (s : State) (first : Option ℕ) (rows : List InRow) (h : List Entry) : Type 0 where
-  pub entries : length h < most_events
+  pub entries : length h < most_events true
   pub cells : count_after first s.world h < most_cells
   pub stray : stray_begins w size s h ≤ call_count h + 1
   pub begins : (begin_count h ≤ call_count h) ⊎ IsPlayedWhole (session_rows rows) h
 
 -- each prefix of a history is shorter than a history may be, and so are the records of the log after it
 pub record IsBounded (origin : Origin) (h : List Entry) : Type 0 where
-  pub short : (g : List Entry) → IsPrefix g h → length g < most_events
+  pub short : (g : List Entry) → IsPrefix g h → length g < most_events origin.kept
   pub few : (g : List Entry) → IsPrefix g h → cells_at origin g < most_cells
+
+-- where rows may be played: a store that keeps the list of its entries, and whose log has at most 16,000,000 records
+pub record IsPlayStart (origin : Origin) : Type 0 where
+  pub kept : origin.kept ≡ true
+  pub few : cells_at origin [] ≤ 16000000
