@@ -124,16 +124,6 @@ loses-attached file a b why refuses = record {
   stays = refuses.stays;
 }
 
--- A fault of a call whose result has another type.
-pub reads-as : {T U : Type 0} (a b : Drive) (e : OpenFault) → OnlyReads {T = T} a b (Err e) → OnlyReads {T = U} a b (Err e)
-reads-as {T = T} a b e reads = record {
-  stays = reads.stays;
-  later = reads.later;
-  same = reads.same;
-  failed = λ disk. let is : e ≡ open_fault.Disk = cc disk in reads.failed (ap (λ (f : OpenFault). Err f) is);
-  file = reads.file;
-}
-
 -- What a walk returns of its next cell, and at its end.
 module _ {D : Type 0} (w : ℕ) (cells : List Cell) (a b : Drive) (walk : WalkView D) (told : Option Walked) (tells : TellsWalked w most_followed cells a b walk (Ok told)) where
   pub next-told : (walked : Walked) → told ≡ Some walked → ComesTo w most_followed (cells ++ walked.cell ∷ []) b walk

@@ -193,10 +193,7 @@ changed-parts-zero {left} {key} {t} {p} {bit} {u} s other next f h zero apart go
     ∙ ap (changed_at (low_bits left other) h) (sym (changed_zero left key f (seen p.zero) (seen p.one) s.some (sym s.goes ∙ zero)))
     ∙ ap (λ (x : Trie). changed_at (low_bits left other) h (changed_at (low_bits left key) f x)) (sym s.is)
 
--- the trie as it was, and how many rows a key leads to, where both halves were lent
-pub kept-parts : {t : Trie} (p : Pair) (zero one : Node) (q : Pair) → t ≡ fork (seen p.zero) (seen p.one) → (q.zero ≡ zero) × (q.one ≡ one) → seen zero ≡ seen p.zero → seen one ≡ seen p.one → fork (seen q.zero) (seen q.one) ≡ t
-kept-parts p zero one q is made e h = (λ i. fork (seen (made.0 i)) (seen (made.1 i))) ∙ (λ i. fork (e i) (h i)) ∙ sym is
-
+-- how many rows a key leads to, where a half was lent
 pub counted-zero : {E : Type 0} {left : ℕ} (r : Result ℕ E) (row : Row) (zero one : Node) (q : Pair) → 0 < left → (bit_at row.key (left - 1) == 1) ≡ false → (q.zero ≡ zero) × (q.one ≡ one)
     → IfOk r (λ m. m ≡ count_under (left - 1) row (seen zero)) → IfOk r (λ m. m ≡ count_under left row (fork (seen q.zero) (seen q.one)))
 counted-zero (Err x) row zero one q some goes made is = tt

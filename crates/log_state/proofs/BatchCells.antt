@@ -69,9 +69,6 @@ cells_of-fails world (Begin number name ∷ fs) all = absurd (true≢false (sym 
 cells_of-fails world (Install number ∷ fs) all = absurd (true≢false (sym all))
 cells_of-fails world (Abandon number ∷ fs) all = absurd (true≢false (sym all))
 
-pub cells_of-batch_fails : (world : World) (number : ℕ) (old : World) (session row : ℕ) (ops : List Op) → cells_of world (batch_fails number old session row ops) ≡ []
-cells_of-batch_fails world number old session row ops = cells_of-fails world (batch_fails number old session row ops) (batch_fails-are number old session row ops)
-
 -- A history with failed appends at its end has the cells that it has without them.
 pub cells_of-with_fails : (world : World) (h fs : List Entry) → are_fails fs ≡ true → cells_of world (h ++ fs) ≡ cells_of world h
 cells_of-with_fails world h fs all =

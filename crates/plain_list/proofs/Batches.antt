@@ -160,16 +160,6 @@ batch_fails-some cell world session row (op ∷ ops) some = by_test (is_change (
     by_test true some rest = refl
     by_test false some rest = rest some
 
-pub batch_fails-none : (cell : ℕ) (world : World) (session row : ℕ) (ops : List Op) → list_any is_change (answers_to world ops) ≡ false → batch_fails cell world session row ops ≡ []
-batch_fails-none cell world session row [] none = refl
-batch_fails-none cell world session row (op ∷ ops) none = by_test (is_change (answer_of world op)) none (batch_fails-none cell (after_of world op) session (row + 1) ops)
-  where
-    by_test : (b : Bool) → (b || list_any is_change (answers_to (after_of world op) ops)) ≡ false
-        → (list_any is_change (answers_to (after_of world op) ops) ≡ false → batch_fails cell (after_of world op) session (row + 1) ops ≡ [])
-        → cond b (Fail cell (lost.Call session row op) ∷ []) [] ++ batch_fails cell (after_of world op) session (row + 1) ops ≡ []
-    by_test true none rest = absurd (true≢false none)
-    by_test false none rest = rest none
-
 -- a legal history without a failed append goes on by the lost changes of a batch
 pub legal-batch_fails : (w : ℕ) (s : State) (h : List Entry) (cell : ℕ) (world : World) (session row : ℕ) (ops : List Op) → has_failed h ≡ false → is_legal_history w s h ≡ true
     → is_legal_history w s (h ++ batch_fails cell world session row ops) ≡ true
@@ -180,19 +170,10 @@ pub failed_cell-batch_fails : (h : List Entry) (cell : ℕ) (world : World) (ses
     → failed_cell (h ++ batch_fails cell world session row ops) ≡ Some cell
 failed_cell-batch_fails h cell world session row ops sound some = failed_cell-append h (batch_fails cell world session row ops) sound ∙ batch_fails-some cell world session row ops some
 
--- after a history with failed appends at its end, the world, the state, the replies and the calls are the same as without them
-
-pub world_after-fails : (world : World) (h fs : List Entry) → are_fails fs ≡ true → world_after world (h ++ fs) ≡ world_after world h
-world_after-fails world h fs all = world_after-append world h fs ∙ fails-world (world_after world h) fs all
+-- After a history with failed appends at its end, the state is the same as without them.
 
 pub state_after-fails : (w : ℕ) (s : State) (h fs : List Entry) → are_fails fs ≡ true → state_after w s (h ++ fs) ≡ state_after w s h
 state_after-fails w s h fs all = state_after-append w s h fs ∙ fails-state w (state_after w s h) fs all
-
-pub replies-fails : (world : World) (h fs : List Entry) → are_fails fs ≡ true → replies world (h ++ fs) ≡ replies world h
-replies-fails world h fs all = replies-append world h fs ∙ ap (λ l. replies world h ++ l) (fails-replies (world_after world h) fs all) ∙ append-nil (replies world h)
-
-pub call_count-fails : (h fs : List Entry) → are_fails fs ≡ true → call_count (h ++ fs) ≡ call_count h
-call_count-fails h fs all = omega (arith, call_count-append h fs, fails-count fs all)
 
 -- after a history with the calls of a batch at its end
 

@@ -94,12 +94,6 @@ removes_next ms m old mid new removes is =
 pub touches_none : (old : World) → Touches [] old old
 touches_none old = record { others = λ k none. refl; world = λ is. is }
 
-pub adds_none : (old : World) → Adds [] old old
-adds_none old = record { touches = touches_none old; there = λ k has. absurd (true≢false (sym has)) }
-
-pub removes_none : (old : World) → Removes [] old old
-removes_none old = record { touches = touches_none old; gone = λ k has. absurd (true≢false (sym has)) }
-
 -- what was touched is the first of these
 pub touches_more : (ms more : List Member) (old new : World) → Touches ms old new → Touches (ms ++ more) old new
 touches_more ms more old new touches =

@@ -33,17 +33,6 @@ use Rattle.point_table.proofs.Settled.{settled_same, settled_then}
 use Rattle.point_table.proofs.TableSteps.{Steps}
 use Rattle.point_table.proofs.Updating.{put-done, move-moved}
 
--- an operation that changes nothing
-pub next_none : (w : ℕ) (splits : List OpenSplit) (table : TableView) (op : Op) (old new : PlanView) (answer : Answer) → Planned w splits table old → answer ≡ answer_of (after_net old.left table.world) op
-    → is_change answer ≡ false → new ≡ old → PlansNext w splits table op old new answer
-next_none w splits table op old new answer planned is quiet same =
-    record {
-      answer_is = is;
-      world = ap (λ (p : PlanView). after_net p.left table.world) same ∙ sym (ap (λ b. if b then changed (after_net old.left table.world) op else after_net old.left table.world) (ap is_change (sym is) ∙ quiet));
-      planned = subst (Planned w splits table) (sym same) planned;
-      calm = λ _. same;
-    }
-
 -- an operation that changes the world
 pub next_some : (w size : ℕ) (splits : List OpenSplit) (table : TableView) (op : Op) (old new : PlanView) (answer : Answer) → Planned w splits table old → size ≡ table.size → answer ≡ answer_of (after_net old.left table.world) op
     → is_change answer ≡ true → (after : World) → after ≡ changed (after_net old.left table.world) op → after_net new.left table.world ≡ after → new.len ≡ length after → IsWorld after → Steps w size splits old.leaves new.leaves after new.names
@@ -116,12 +105,6 @@ next_remove w size splits table id kept old new planned size_is there fewer leav
     let new_len : new.len ≡ length (without id world) = omega arith in
     next_some w size splits table (Remove id) old new (Gone kept) planned size_is (sym (ap (λ o. option_map_or Gone o Absent) there)) refl (without id world) refl
     (leaves table.world planned.before) new_len (IsWorld-without id world planned.world) steps
-
--- a removal leaves a number
-pub some_there : (id : ℕ) (kept : Stamped) (world : World) (len : ℕ) → IsWorld world → position_of world id ≡ Some kept → len ≡ length world → 1 ≤ len
-some_there id kept world len is_world there is =
-    let fewer : suc (length (without id world)) ≡ length world = length-without id kept world is_world.rising there in
-    omega arith
 
 -- before the first operation
 pub planned_first : {I P : Type 0} (leaves : I → List Leaf) (w : ℕ) (splits : List OpenSplit) (t : Inside I P) (plan : PlanView) → IsTable leaves w t → plan.left ≡ [] → plan.len ≡ length t.members → plan.leaves ≡ leaves t.index

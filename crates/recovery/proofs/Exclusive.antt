@@ -341,10 +341,6 @@ recovers_wanted w cells bytes recovers =
     let named : slice_index bytes 8 ≡ recovers.version = index_version recovers.version w cells bytes recovers.holds in
     ⊎_elim (λ first. record { least = omega (arith, named, first); most = omega (arith, named, first) }) (λ second. record { least = omega (arith, named, second); most = omega (arith, named, second) }) recovers.known
 
-pub passed_and : {T : Type 0} (result : Result T OpenFault) (e : OpenFault) (P : OpenFault → Type 0) → IsErrAnd result (λ x. x ≡ e) → P e → IsErrAnd result P
-passed_and (Ok x) e P same holds = same
-passed_and (Err x) e P same holds = subst P (sym same) holds
-
 -- Bytes recover to one list of cells.
 pub one_recovery : (w : ℕ) (first second : List Cell) (bytes : List ℕ) → Recovers w first bytes → Recovers w second bytes → first ≡ second
 one_recovery w first second bytes a b =

@@ -58,8 +58,5 @@ module _ (more : List Cell) (none : length more ≡ 0) (drive : Drive) where
   pub none-added : (w : ℕ) (cells : List Cell) → IsLog w cells drive → IsLog w (cells ++ more) drive
   none-added w cells log = subst (λ (l : List Cell). IsLog w (cells ++ l) drive) (sym (nil_from_length more none)) (subst (λ (l : List Cell). IsLog w l drive) (sym (append-nil cells)) log)
 
-pub nothing-moved : (w : ℕ) (cells more : List Cell) (drive : Drive) → KeepsLaws drive → IsLog w cells drive → LeavesOnly drive drive (HoldsAllOrNone w cells more)
-nothing-moved w cells more drive laws log = only-none w cells more drive drive (before_all w cells drive laws log)
-
 pub same_first : (a b : ℕ) → ◌≡◌ {A = Result (Unit {0}) AppendAllFault} (Err (Disk a)) (Err (Disk b)) → b ≡ a
 same_first a b e = cc e
