@@ -71,7 +71,8 @@ pub(crate) fn next_of<'a, I: Index, L: Ledger>(
     ensures front { IsFront (I.is_at index.now) front.new }
     ensures from { front.new.from ≡ front.old.from }
     ensures next { IsNext result (coming (I.leaves index.now) front.old).objects (coming (I.leaves index.now) front.new).objects }
-    ensures opened { OpensOnce (coming (I.leaves index.now) front.old).leaves (coming (I.leaves index.now) front.new).leaves steps.old steps.new }
+    ensures opened { OpensOnce (coming (I.leaves index.now) front.old).leaves
+        (coming (I.leaves index.now) front.new).leaves steps.old steps.new }
     ensures near { OpensNearFirst (coming (I.leaves index.now) front.old) (coming (I.leaves index.now) front.new) steps.old steps.new }
 {
     'down: while !front.has_first() {
@@ -153,7 +154,8 @@ fn push_rows<L: Ledger>(
     steps: &mut Steps<L>,
 ) -> Result<(), AllocError>
     requires ordered { IsHeap last_cmp (heap_items found.old) }
-    ensures added { OnOk result (IsPermutation (founds (heap_items found.old) ++ map (found_of from) bucket.now.rows) (founds (heap_items found.new))) }
+    ensures added { OnOk result (IsPermutation (founds (heap_items found.old)
+        ++ map (found_of from) bucket.now.rows) (founds (heap_items found.new))) }
     ensures ordered { IsHeap last_cmp (heap_items found.new) }
     ensures opened { OnOk result (steps.new ≡ steps.old + 1) }
     ensures err { OnErr result ((heap_items found.new ≡ heap_items found.old) × (steps.new ≡ steps.old)) }

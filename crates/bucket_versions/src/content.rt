@@ -251,7 +251,8 @@ impl Content {
     ) -> Result<(), Undone>
         requires can { C.can commit.old }
         requires both { AreKept self.old × (has_row to.row (arc_value other.old).rows ≡ false) }
-        ensures ok { OnOk result ((kept self.new ≡ after_turn from (kept self.old)) × (arc_value other.new ≡ after_put to (arc_value other.old))) }
+        ensures ok { OnOk result ((kept self.new ≡ after_turn from (kept self.old))
+            × (arc_value other.new ≡ after_put to (arc_value other.old))) }
         ensures in_order { AreKept self.new }
         ensures err { OnErr result ((kept self.new ≡ kept self.old) × (arc_value other.new ≡ arc_value other.old)) }
         ensures told { Told C.done C.lost commit.old commit.new result }

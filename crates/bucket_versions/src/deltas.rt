@@ -26,7 +26,8 @@ pub(crate) fn merged(alloc: Global, base: &[Row], delta: &[Row]) -> Result<Vec<R
 // Appends the rows before `turned`, and `turned` if it isn't among them. Returns the rows after it.
 fn push_run<'a>(all: &mut Vec<Row>, rest: &'a [Row], turned: &Row) -> Result<&'a [Row], AllocError>
     requires { IsRows rest.now }
-    ensures rows { IfOk result (λ left. (delta : List Row) → all.new.items ++ difference left.now delta ≡ all.old.items ++ difference rest.now (turned.now ∷ delta)) }
+    ensures rows { IfOk result (λ left. (delta : List Row) →
+        all.new.items ++ difference left.now delta ≡ all.old.items ++ difference rest.now (turned.now ∷ delta)) }
     ensures in_order { IfOk result (λ left. IsRows left.now) }
 {
     match place_of(rest, turned) {

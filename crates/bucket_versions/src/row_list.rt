@@ -261,7 +261,8 @@ impl RowList {
     ) -> Result<(), Undone>
         requires can { C.can commit.old }
         requires both { (IsRowList self.old × HasRoom 2 self.old) × (has_row to.row (arc_value other.old).rows ≡ false) }
-        ensures ok { OnOk result ((listed self.new ≡ turn from (listed self.old)) × (arc_value other.new ≡ after_put to (arc_value other.old))) }
+        ensures ok { OnOk result ((listed self.new ≡ turn from (listed self.old))
+            × (arc_value other.new ≡ after_put to (arc_value other.old))) }
         ensures is { IsRowList self.new × (rows_under self.new.under ≡ rows_under self.old.under) }
         ensures err { OnErr result ((listed self.new ≡ listed self.old) × (arc_value other.new ≡ arc_value other.old)) }
         ensures told { Told C.done C.lost commit.old commit.new result }

@@ -128,7 +128,8 @@ impl<'a> Iterator for BucketRows<'a> {
 fn merged_next<'a>(base: &'a [Row], delta: &'a [Row]) -> Option<(&'a Row, &'a [Row], &'a [Row])>
     requires { AreParts base.now delta.now }
     ensures in_order { IfSome result (λ next. AreParts next.1.now next.2.now) }
-    ensures next { MatchOption result (difference base.now delta.now ≡ []) (λ next. difference base.now delta.now ≡ next.0.now ∷ difference next.1.now next.2.now) }
+    ensures next { MatchOption result (difference base.now delta.now ≡ []) (λ next.
+        difference base.now delta.now ≡ next.0.now ∷ difference next.1.now next.2.now) }
 {
     let (base, delta) = apart(base, delta);
     if leads(base, delta) {

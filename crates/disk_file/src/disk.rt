@@ -61,7 +61,11 @@ impl<R: Files + Drop> FileDisk<R> {
     fn failed(&mut self, error: &io::Error)
         ensures rose { Rose self.old.faults self.new.faults }
         ensures later { self.old.faults ≤ self.new.faults }
-        ensures after { self.new ≡ record { attached = self.old.attached; faults = one_more self.old.faults; reason = Some (reason_of (error_kind error.now)) } }
+        ensures after { self.new ≡ record {
+          attached = self.old.attached;
+          faults = one_more self.old.faults;
+          reason = Some (reason_of (error_kind error.now));
+        } }
     {
         self.faults = self.faults.saturating_add(1);
         self.reason = Some(Reason::of(error.kind()));

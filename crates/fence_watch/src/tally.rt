@@ -104,7 +104,8 @@ impl Tally {
             → result.now ≡ map (count_in (state_of w cells).world) fences }
         ensures from { (at : ℕ) (world : World) (taken : List Event) (cells : List Cell) (fences : List Fence)
             → TalliesFrom at world taken cells fences self.now → result.now ≡ map (count_in (world_after_cells world cells)) fences }
-        ensures world { (world : World) (fences : List Fence) → FollowsWorld world fences self.now → result.now ≡ map (count_in world) fences }
+        ensures world { (world : World) (fences : List Fence) → FollowsWorld world fences self.now
+            → result.now ≡ map (count_in world) fences }
         ensures history { (world : World) (h : List Entry) (taken : List Event) (fences : List Fence)
             → TalliesChanges world taken (changes_of world h) fences self.now → result.now ≡ map (count_in (world_after world h)) fences }
     {

@@ -31,7 +31,8 @@ pub(crate) fn grow<I: Index>(
     requires splits { length name.now % I.WIDTH ≡ 0 }
     requires longer { (d : List Bool) → length name.now ≤ length (slice_index_or leaves.now growing.done d) }
     requires leaf { StandsThere whole.now.base leaves.now growing.done name.now (I.leaves growing.index) }
-    ensures { IfOk result (λ g. GrowsOn whole.now.base leaves.now growing.done g.done name.now (I.leaves growing.index) (I.leaves g.index)) }
+    ensures { IfOk result (λ g. GrowsOn whole.now.base leaves.now growing.done g.done name.now (I.leaves growing.index)
+        (I.leaves g.index)) }
 {
     let Growing { mut index, done } = growing;
     if leaves[done] == *name {

@@ -61,7 +61,8 @@ fn visit_below<I: Index, V: Visit, L: Ledger>(
     requires is_box { IsBox region.now }
     requires at { I.is_at index.now place.now name.now }
     requires area { IsAreaOf name.now area.now }
-    ensures visits { AreAllKeysUnder (I.leaves index.now) → FoldsTo V.does visitor.old (held_below region.now name.now (I.leaves index.now)) visitor.new }
+    ensures visits { AreAllKeysUnder (I.leaves index.now) → FoldsTo V.does visitor.old
+        (held_below region.now name.now (I.leaves index.now)) visitor.new }
     ensures opened { steps.new ≡ steps.old + length (below_met region.now name.now (I.leaves index.now)) }
 {
     if !meets(area, region) {

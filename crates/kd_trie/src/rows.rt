@@ -127,7 +127,8 @@ fn pass_row<C: Commit>(
     requires fits { Fits left (seen node.old) × Fits other_left (seen other.old) }
     requires rows { MayMove left from.now other_left to.old.change (seen node.old) (seen other.old) }
     requires counted { (is_counted node.old ≡ true) × (is_counted other.old ≡ true) }
-    ensures ok { OnOk to.new.ended ((seen node.new ≡ gone_under left from.now (seen node.old)) × (seen other.new ≡ put_under other_left to.old.change (seen other.old))) }
+    ensures ok { OnOk to.new.ended ((seen node.new ≡ gone_under left from.now (seen node.old))
+        × (seen other.new ≡ put_under other_left to.old.change (seen other.old))) }
     ensures count { IfOk to.new.ended (λ n. n ≡ count_under other_left to.old.change.row (seen other.new)) }
     ensures err { OnErr to.new.ended ((seen node.new ≡ seen node.old) × (seen other.new ≡ seen other.old)) }
     ensures counted { OnOk to.new.ended (is_counted node.new ≡ true) }
@@ -163,7 +164,8 @@ fn pass_on<C: Commit>(
     requires fits { Fits left (seen node.old) }
     requires rows { (has_row from.now.row (arc_value leaf.old).rows ≡ true) × (has_under left to.old.change.row (seen node.old) ≡ false) }
     requires counted { is_counted node.old ≡ true }
-    ensures ok { OnOk to.new.ended ((arc_value leaf.new ≡ after_gone from.now (arc_value leaf.old)) × (seen node.new ≡ put_under left to.old.change (seen node.old))) }
+    ensures ok { OnOk to.new.ended ((arc_value leaf.new ≡ after_gone from.now (arc_value leaf.old))
+        × (seen node.new ≡ put_under left to.old.change (seen node.old))) }
     ensures count { IfOk to.new.ended (λ n. n ≡ count_under left to.old.change.row (seen node.new)) }
     ensures err { OnErr to.new.ended ((arc_value leaf.new ≡ arc_value leaf.old) × (seen node.new ≡ seen node.old)) }
     ensures counted { OnOk to.new.ended (is_counted node.new ≡ true) }

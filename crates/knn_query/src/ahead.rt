@@ -70,7 +70,8 @@ pub struct Waiting<P> {
 /// Removes the nearest subtree from the heap and returns it.
 pub fn take_nearest<P: Drop>(waiting: &mut BinaryHeap<Waiting<P>>) -> Option<Waiting<P>>
     requires { IsHeap waiting_cmp (heap_items waiting.old) }
-    ensures taken { MatchOption result (heap_items waiting.old ≡ []) (λ next. IsNearest next (heap_items waiting.old) (heap_items waiting.new)) }
+    ensures taken { MatchOption result (heap_items waiting.old ≡ []) (λ next. IsNearest next (heap_items waiting.old)
+        (heap_items waiting.new)) }
     ensures ordered { IsHeap waiting_cmp (heap_items waiting.new) }
 {
     waiting.pop()

@@ -117,7 +117,8 @@ impl Kept {
     /// Returns the nearest objects, in order.
     pub(crate) fn into_list(self, alloc: Global) -> Result<PlacedList, AllocError>
         requires { IsHeld self }
-        ensures { (places : List Placed) → AreOf places (held self) → IfOk result (λ list. list ≡ take self.k (ranked self.from (held self))) }
+        ensures { (places : List Placed) → AreOf places (held self) → IfOk result (λ list.
+            list ≡ take self.k (ranked self.from (held self))) }
     {
         let mut sorted = self.heap.into_vec();
         // The first sort compares one word instead of two, which takes half the time. The second sort only reorders

@@ -108,7 +108,8 @@ fn nearest_leaf<'a, I: Index>(
     requires place { I.is_at index.now at.now first.name }
     requires places { AreAt (I.is_at index.now) (heap_items waiting.old) }
     requires ordered { IsHeap waiting_cmp (heap_items waiting.old) }
-    ensures leads { IfOk result (Leads (I.leaves index.now) kept.now (first ∷ ahead_of (heap_items waiting.old)) (ahead_of (heap_items waiting.new))) }
+    ensures leads { IfOk result (Leads (I.leaves index.now) kept.now (first ∷ ahead_of (heap_items waiting.old))
+        (ahead_of (heap_items waiting.new))) }
     ensures places { OnOk result (AreAt (I.is_at index.now) (heap_items waiting.new)) }
     ensures ordered { OnOk result (IsHeap waiting_cmp (heap_items waiting.new)) }
 {

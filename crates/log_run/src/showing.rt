@@ -33,7 +33,8 @@ fn tell_objects<K: Sink, D: LogDisk>(
     sink: &mut K,
     disk: &mut D,
 ) -> u8
-    ensures ends { TellsLog (shown_text region.now) file.now (D.drive disk.old) (D.drive disk.new) result (K.output sink.old) (K.output sink.new) }
+    ensures ends { TellsLog (shown_text region.now) file.now (D.drive disk.old) (D.drive disk.new) result (K.output sink.old)
+        (K.output sink.new) }
 {
     match find(alloc, file, disk) {
         Ok(found) => written(write_objects(sink, found.seen.world.as_slice(), region)),

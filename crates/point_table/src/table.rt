@@ -172,7 +172,8 @@ impl<I: Index> PointTable<I> {
         requires { is_change (answer_of self.old.world (Op.Put id to.at to.moment)) ≡ true → C.can commit.old }
         ensures ok { IfOk result (λ a. Updates (splits_of begun.now) self.old self.new (Op.Put id to.at to.moment) a) }
         ensures err { OnErr result (self.new ≡ self.old) }
-        ensures told { TellsIf C.done C.lost (is_change (answer_of self.old.world (Op.Put id to.at to.moment))) commit.old commit.new result }
+        ensures told { TellsIf C.done C.lost (is_change (answer_of self.old.world
+            (Op.Put id to.at to.moment))) commit.old commit.new result }
     {
         if self.is_full() {
             return Ok(self.full(id));
@@ -227,7 +228,8 @@ impl<I: Index> PointTable<I> {
         requires { is_change (answer_of self.old.world (Op.Move id to.at to.moment)) ≡ true → C.can commit.old }
         ensures ok { IfOk result (λ a. Updates (splits_of begun.now) self.old self.new (Op.Move id to.at to.moment) a) }
         ensures err { OnErr result (self.new ≡ self.old) }
-        ensures told { TellsIf C.done C.lost (is_change (answer_of self.old.world (Op.Move id to.at to.moment))) commit.old commit.new result }
+        ensures told { TellsIf C.done C.lost (is_change (answer_of self.old.world
+            (Op.Move id to.at to.moment))) commit.old commit.new result }
     {
         // The map is changed first, and changed back if the move is stale or fails. So the id is looked up only once if
         // it moves.

@@ -99,10 +99,12 @@ fn list_below<I: Index, L: Ledger>(
     requires is_box { IsBox region.now }
     requires at { I.is_at index.now place.now name.now }
     requires area { IsAreaOf name.now area.now }
-    ensures lists { AreAllKeysUnder (I.leaves index.now) → Adds result (held_below region.now name.now (I.leaves index.now)) found.old found.new }
+    ensures lists { AreAllKeysUnder (I.leaves index.now) → Adds result
+        (held_below region.now name.now (I.leaves index.now)) found.old found.new }
     ensures grows { found.old.count ≤ found.new.count }
     ensures opened { steps.new ≤ steps.old + length (below_met region.now name.now (I.leaves index.now)) }
-    ensures exact { OnOk result (found.new.count ≤ most_listed → steps.new ≡ steps.old + length (below_met region.now name.now (I.leaves index.now))) }
+    ensures exact { OnOk result (found.new.count ≤ most_listed
+        → steps.new ≡ steps.old + length (below_met region.now name.now (I.leaves index.now))) }
 {
     if !meets(area, region) {
         return Ok(());
@@ -153,7 +155,8 @@ fn list_leaf<L: Ledger>(
 ) -> Result<(), Memory>
     requires is_box { IsBox region.now }
     requires area { IsAreaOf name.now area.now }
-    ensures lists { AreKeysUnder name.now bucket.now.rows → Adds result (members_in region.now (objects_of bucket.now.rows)) found.old found.new }
+    ensures lists { AreKeysUnder name.now bucket.now.rows → Adds result
+        (members_in region.now (objects_of bucket.now.rows)) found.old found.new }
     ensures grows { found.old.count ≤ found.new.count }
     ensures opened { steps.new ≡ steps.old + 1 }
 {

@@ -56,7 +56,8 @@ fn push_below<I: Index, L: Ledger>(
 ) -> Result<(), Memory>
     requires is_box { IsBox region.now }
     requires at { I.is_at index.now place.now name.now }
-    ensures objects { AreAllKeysUnder (I.leaves index.now) → OnOk result (found.new.items ≡ found.old.items ++ held_below region.now name.now (I.leaves index.now)) }
+    ensures objects { AreAllKeysUnder (I.leaves index.now) → OnOk result (
+        found.new.items ≡ found.old.items ++ held_below region.now name.now (I.leaves index.now)) }
     ensures opened { steps.new ≤ steps.old + length (below_met region.now name.now (I.leaves index.now)) }
     ensures exact { OnOk result (steps.new ≡ steps.old + length (below_met region.now name.now (I.leaves index.now))) }
 {
@@ -81,7 +82,8 @@ fn push_leaf<L: Ledger>(
     steps: &mut Steps<L>,
 ) -> Result<(), Memory>
     requires { IsBox region.now }
-    ensures objects { AreKeysUnder name.now bucket.now.rows → OnOk result (found.new.items ≡ found.old.items ++ members_in region.now (objects_of bucket.now.rows)) }
+    ensures objects { AreKeysUnder name.now bucket.now.rows → OnOk result (
+        found.new.items ≡ found.old.items ++ members_in region.now (objects_of bucket.now.rows)) }
     ensures opened { steps.new ≡ steps.old + 1 }
 {
     if inside(&prefix_names::region(name), region) {

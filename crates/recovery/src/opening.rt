@@ -26,7 +26,8 @@ pub fn open_log<D: LogDisk>(
     requires width { IfSome wanted.width IsWidth }
     requires few { wanted.most ≤ most_cells }
 
-    ensures opened { IfOk result (λ o. OpensWanted wanted.width wanted.most (D.drive disk) (D.drive o.opened.log.disk) o.width o.opened.seen) }
+    ensures opened { IfOk result (λ o. OpensWanted wanted.width wanted.most (D.drive disk)
+        (D.drive o.opened.log.disk) o.width o.opened.seen) }
     ensures log { IfOk result (λ o. (o.opened.log.cells ≡ o.opened.seen.cells) × (o.opened.log.failed ≡ None)) }
     ensures start { IfOk result (λ o. o.opened.start.value ≡ disk) }
     ensures refused { IfErr result (λ e. RefusesWanted wanted.width wanted.most (D.drive disk) (D.drive e.disk) e.cause) }

@@ -52,7 +52,8 @@ fn push_subtree<I: Index, L: Ledger>(
     steps: &mut Steps<L>,
 ) -> Result<(), Memory>
     requires at { I.is_at index.now place.now name.now }
-    ensures rows { OnOk result (found.new.items ≡ found.old.items ++ rows_between lo hi (all_rows (leaves_between lo hi (subtree name.now (I.leaves index.now))))) }
+    ensures rows { OnOk result (found.new.items ≡ found.old.items ++ rows_between lo hi
+        (all_rows (leaves_between lo hi (subtree name.now (I.leaves index.now))))) }
     ensures opened { steps.new ≤ steps.old + length (leaves_between lo hi (subtree name.now (I.leaves index.now))) }
     ensures exact { OnOk result (steps.new ≡ steps.old + length (leaves_between lo hi (subtree name.now (I.leaves index.now)))) }
 {

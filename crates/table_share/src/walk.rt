@@ -42,7 +42,8 @@ impl<'a, I: Index> LeafWalk<'a, I> {
 
     /// Returns the next leaf's name and bucket. After the last leaf, each call returns `None`. No call opens a bucket.
     pub fn next_leaf(&mut self) -> Option<(Name, &'a Arc<Bucket>)>
-        ensures { MatchOption result ((self.old ≡ []) × (self.new ≡ [])) (λ leaf. self.old ≡ record { name = leaf.0; bucket = arc_value leaf.1.now } ∷ self.new) }
+        ensures { MatchOption result ((self.old ≡ []) × (self.new ≡ [])) (λ leaf.
+            self.old ≡ record { name = leaf.0; bucket = arc_value leaf.1.now } ∷ self.new) }
     {
         let key = self.key?;
         let (name, bucket) = self.index.leaf_of(key);
