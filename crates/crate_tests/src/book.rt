@@ -22,7 +22,7 @@ mod calls;
 mod deltas;
 mod logged;
 mod lost_moves;
-mod renewals;
 mod snapshots;
 mod splits;
 mod steps;
+mod unlisted;

@@ -170,17 +170,6 @@ pub fn abandon<I: Index, D: LogDisk>(
     }
 }
 
-/// Renews a book, and returns how many entries it had and how many more it takes.
-pub fn renew<I: Index, D: LogDisk>(
-    rt: &impl Abort,
-    alloc: Global,
-    book: &mut Book<I, D>,
-) -> Result<Told, BookFault> {
-    let entries = book.renew(alloc).ok().expect(rt, "the book isn't renewed");
-    let had = entries.as_slice().len() as u64;
-    Ok((had, "renewed", Some([book.room().entries, 0, 0])))
-}
-
 /// How many cells and entries a book has, and at which cell it is closed.
 pub type Stands = (u64, u64, Option<u64>);
 

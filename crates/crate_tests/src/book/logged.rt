@@ -21,8 +21,8 @@ const SPLIT_LOG: &[u8] = b"MDLOCLOG\x02\x01\0\0\0\0\0\0\
     \x01\x06\0\0\0\0\0\0\0\x02\0\0\0\0\0\0\0\0\0\0\0\0\0\0\0\0\0\0\0\0\0\0\
     \0";
 
-// Four rows, a split, and one that is abandoned.
-const ADDING: &[Taken] = &[
+/// Four rows, a split, and one that is abandoned.
+pub const ADDING: &[Taken] = &[
     (Step::Stand, Ok(TAKEN), (0, 0, None)),
     (
         Step::Put(1, 7, at!(3, 5)),
@@ -176,8 +176,8 @@ fn is_put_of_7(lost: &Lost) -> bool {
     }
 }
 
-// A put whose append fails, and one after it.
-const CLOSING: &[Taken] = &[
+/// A put whose append fails, and one after it.
+pub const CLOSING: &[Taken] = &[
     (
         Step::Put(1, 7, at!(3, 5, 10)),
         Err(BookFault::Disk { cell: 0 }),

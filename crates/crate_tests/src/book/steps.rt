@@ -2,7 +2,7 @@
 use crate::book::books::book_on;
 use crate::book::calls::{
     Leaf, Stands, TAKEN, Told, abandon, begin, begin_and_cut, find, install, look, put, relocate,
-    remove, renew, seen_in, stands,
+    remove, seen_in, stands,
 };
 use commit_book::{Book, BookFault};
 use disk_trait::LogDisk;
@@ -33,8 +33,6 @@ pub enum Step {
     /// Installs a split twice.
     SplitTwice(Leaf),
     Abandon(u64),
-    /// Continues with an empty history.
-    Renew,
 }
 
 /// A step, the book's answer to it, and the state of the book then.
@@ -86,7 +84,8 @@ fn split_twice<I: Index, D: LogDisk>(
     install(book, &prepared)
 }
 
-fn take<I: Index, D: LogDisk>(
+/// Takes a step, and returns the book's answer.
+pub fn take<I: Index, D: LogDisk>(
     rt: &impl Abort,
     alloc: Global,
     book: &mut Book<I, D>,
@@ -105,11 +104,11 @@ fn take<I: Index, D: LogDisk>(
         Step::Split(leaf) => split(rt, alloc, book, leaf),
         Step::SplitTwice(leaf) => split_twice(rt, alloc, book, leaf),
         Step::Abandon(number) => abandon(book, number),
-        Step::Renew => renew(rt, alloc, book),
     }
 }
 
-fn follow<I: Index, D: LogDisk>(
+/// Takes these steps in a book.
+pub fn follow<I: Index, D: LogDisk>(
     rt: &impl Abort,
     alloc: Global,
     book: &mut Book<I, D>,
