@@ -1,14 +1,12 @@
 -- What the opening of a log comes to.
-use Rattle.std.proofs.Common.{◌≡◌, ◌⊎◌, inl, inr, ⊎_elim, ◌∙◌, ℕ, ◌≤◌, false, List, length, Some, is_some, refl, sym, ap, subst, arith, None}
+use Rattle.std.proofs.Common.{◌≡◌, ◌⊎◌, inl, inr, ⊎_elim, ◌∙◌, ℕ, ◌≤◌, false, List, Some, is_some, refl, sym, ap, subst, arith, None}
 use Rattle.std.specs.Prelude.{slice_index}
 use Rattle.disk_trait.specs.Drive.{Drive, AttachedOne, KeepsLaws, Stays}
 use Rattle.disk_trait.proofs.Calls.{attached-still}
 use Rattle.cell_format.specs.declared.cell.Cell.{Cell}
 use Rattle.cell_format.specs.Spelling.{newest}
 use Rattle.log_state.specs.Recovers.{Recovers}
-use Rattle.recovery.specs.Faults.{IsInBytes, IsFault}
-use Rattle.recovery.specs.Found.{IsFound, IsFree, IsNewest}
-use Rattle.zorder.specs.Width.{IsWidth}
+use Rattle.recovery.specs.Found.{IsFound, IsNewest}
 use Rattle.recovery.specs.Widths.{HasWidth}
 use Rattle.recovery.specs.Opening.{KeepsCells, KeepsNewest, HasNoLog, IsUntouched, KeepsStanding, RefusesWanted}
 use Rattle.recovery.specs.LogText.{IsLog}

@@ -20,7 +20,7 @@ use Rattle.sessions.proofs.StepLemmas.{cells-at}
 use Rattle.lane_history.specs.SessionRows.{session_rows}
 use Rattle.lane_history.specs.Lanes.{IsPlayedOut, OwnsAll}
 use Rattle.lane_history.specs.LostSteps.{IsNextStep, LosesStep}
-use Rattle.lane_history.specs.Settled.{SplitsAreDone, IsWithinLimits}
+use Rattle.lane_history.specs.Settled.{SplitsAreDone, IsWithinLimits, IsPlayStart}
 use Rattle.play_run.specs.declared.lanes.LaneEnd.{LaneEnd}
 use Rattle.play_run.specs.inside.Dealt.{sessions_to}
 use Rattle.play_run.specs.inside.Joined.{HasRun, HasNotRun, HasAllParts}
@@ -42,29 +42,29 @@ unseen (e ∷ h) own all none =
     let one : once_below 0 (length (e ∷ h)) ≡ 1 = ap {B = ℕ} (λ (b : Bool). cond {A = ℕ} b 1 0) (positive (length (e ∷ h)) (omega arith)) in
     absurd (omega (arith, all 0, none 0, one))
 
-played-none : (w : ℕ) (origin : Origin) (rows : List InRow) (h : List Entry) → cells_at origin [] ≤ 16000000 → h ≡ [] → ArePlayed w origin rows h
-played-none w origin rows [] few none = record {
+played-none : (w : ℕ) (origin : Origin) (rows : List InRow) (h : List Entry) → IsPlayStart origin → h ≡ [] → ArePlayed w origin rows h
+played-none w origin rows [] start none = record {
   played = λ s. (session_rows rows s, refl);
   loses = λ cell failed. absurd (cc failed);
   limits = record { entries = omega arith; cells = omega arith; stray = omega arith; begins = inl (omega arith) };
 }
-played-none w origin rows (e ∷ h) few none = absurd (cc none)
+played-none w origin rows (e ∷ h) start none = absurd (cc none)
 
 module _ {I D O P : Type 0} (w : ℕ) (origin : Origin) (rows : List InRow) (ends : List LaneEnd) (last : Known) (are : AreInRows rows) (own : OwnsAll last) where
   abbrev out : (done : Bool) (ran : HasRun I D O P w origin rows ends last done) → IsPlayedOut w origin rows (sessions_to 16 rows) ran.lanes last
   out done ran = record { sessions_are = sessions-are rows are; played = ran.played; pass = ran.pass; joined = ran.joined; goes_on = ran.goes_on; whole = own }
 
-  pub are-played : (done : Bool) → HasRun I D O P w origin rows ends last done ⊎ HasNotRun last done → IsLegal w (start_of origin) last.seen → cells_at origin [] ≤ 16000000 → ArePlayed w origin rows last.seen
-  are-played done (inl ran) legal few = record {
+  pub are-played : (done : Bool) → HasRun I D O P w origin rows ends last done ⊎ HasNotRun last done → IsLegal w (start_of origin) last.seen → IsPlayStart origin → ArePlayed w origin rows last.seen
+  are-played done (inl ran) legal start = record {
     played = played w origin rows (sessions_to 16 rows) ran.lanes last (out done ran);
     loses = λ cell failed. loses w origin rows (sessions_to 16 rows) ran.lanes last (out done ran) cell legal failed;
-    limits = within_limits w origin rows (sessions_to 16 rows) ran.lanes last (out done ran) legal are.most few;
+    limits = within_limits w origin rows (sessions_to 16 rows) ran.lanes last (out done ran) legal are.most start;
   }
-  are-played done (inr none) legal few = played-none w origin rows last.seen few (unseen last.seen last.own own none.own)
+  are-played done (inr none) legal start = played-none w origin rows last.seen start (unseen last.seen last.own own none.own)
 
-  pub are-answered : HasRun I D O P w origin rows ends last true ⊎ HasNotRun last true → IsLegal w (start_of origin) last.seen → cells_at origin [] ≤ 16000000 → AreAnswered w origin rows last.seen ends
-  are-answered (inr none) legal few = absurd (cc none.not_done)
-  are-answered (inl ran) legal few =
+  pub are-answered : HasRun I D O P w origin rows ends last true ⊎ HasNotRun last true → IsLegal w (start_of origin) last.seen → IsPlayStart origin → AreAnswered w origin rows last.seen ends
+  are-answered (inr none) legal start = absurd (cc none.not_done)
+  are-answered (inl ran) legal start =
       let all = out true ran in
       let calm = ran.is_done.0 in
       let sessions = sessions_to 16 rows in
@@ -72,7 +72,7 @@ module _ {I D O P : Type 0} (w : ℕ) (origin : Origin) (rows : List InRow) (end
         whole = whole w origin rows sessions ran.lanes last all calm;
         answers = subst (λ (l : List LaneEnd). HasAnswers origin.world last.seen rows l) (sym ran.ends_are)
             (has-answers w origin origin.world last.seen rows sessions ran.lanes (sessions-are rows are) ran.played calm (kept_right w origin rows sessions ran.lanes last all));
-        settled = λ going. settled w origin rows sessions ran.lanes last ran.is_done.1.0 all ran.is_done.1.1 ran.is_done.1.2 legal are.most few going;
+        settled = λ going. settled w origin rows sessions ran.lanes last ran.is_done.1.0 all ran.is_done.1.1 ran.is_done.1.2 legal are.most start going;
       }
 
 -- a book of an origin begins as that says
@@ -84,8 +84,11 @@ opening-is drive w b book = same
 
 module _ {D : Type 0} (drive : D → Drive) (w : ℕ) (rows : List InRow) (old new : BookView D) (before : IsBook drive w old) (after : IsBook drive w new) (begins : IsNewBook old) where
   -- the log has few cells at first
-  pub few-first : cells_at (origin_of drive old) [] ≤ 16000000
+  few-first : cells_at (origin_of drive old) [] ≤ 16000000
   few-first = subst (λ (h : List Entry). cells_at (origin_of drive old) h ≤ 16000000) begins.entries (subst (λ (n : ℕ). n ≤ 16000000) (cells-at drive w old before) begins.few)
+
+  play-first : IsPlayStart (origin_of drive old)
+  play-first = record { kept = begins.kept; few = few-first }
 
   pub played-book : origin_of drive new ≡ origin_of drive old → ArePlayed w (origin_of drive old) rows new.entries → IsPlayedBook w rows old new
   played-book same are = record {
@@ -96,6 +99,7 @@ module _ {D : Type 0} (drive : D → Drive) (w : ℕ) (rows : List InRow) (old n
     limits =
         subst (λ (s : State). IsWithinLimits w old.bucket s (first_in old.log) rows new.entries) (opening-is drive w old before)
         (subst (λ (first : Option ℕ). IsWithinLimits w old.bucket (start_of (origin_of drive old)) first rows new.entries) (first-in drive old) are.limits);
+    kept = ap (λ (o : Origin). o.kept) same ∙ begins.kept;
   }
 
   pub answered-book : (ends : List LaneEnd) → AreAnswered w (origin_of drive old) rows new.entries ends → IsAnsweredBook w rows old new ends
@@ -111,11 +115,11 @@ module _ {D : Type 0} (drive : D → Drive) (w : ℕ) (rows : List InRow) (old n
   pub played-not : new ≡ old → IsPlayedBook w rows old new
   played-not same =
       let none : new.entries ≡ [] = ap (λ (b : BookView D). b.entries) same ∙ begins.entries in
-      played-book (ap (origin_of drive) same) (played-none w (origin_of drive old) rows new.entries few-first none)
+      played-book (ap (origin_of drive) same) (played-none w (origin_of drive old) rows new.entries play-first none)
 
   -- the same of the pass of a store of the book
-  pub few-pass : (origin : Origin) → origin ≡ origin_of drive old → cells_at origin [] ≤ 16000000
-  few-pass origin is = subst (λ (o : Origin). cells_at o [] ≤ 16000000) (sym is) few-first
+  pub play-pass : (origin : Origin) → origin ≡ origin_of drive old → IsPlayStart origin
+  play-pass origin is = subst IsPlayStart (sym is) play-first
 
   pub played-from : (origin : Origin) → origin ≡ origin_of drive old → origin_of drive new ≡ origin → ArePlayed w origin rows new.entries → IsPlayedBook w rows old new
   played-from origin is same are = played-book (same ∙ is) (subst (λ (o : Origin). ArePlayed w o rows new.entries) is are)
@@ -136,10 +140,10 @@ module _ {D : Type 0} (I O P : Type 0) (drive : D → Drive) (w : ℕ) (rows : L
       subst (λ (h : List Entry). IsLegal w (start_of old.origin) h) value.0
       (subst (λ (s : State). IsLegal w s b.entries) (sym (opening-is drive w b book) ∙ ap start_of origin-same) book.legal)
 
-  pub store-played : (done : Bool) → cells_at old.origin [] ≤ 16000000 → HasRun I D O P w old.origin rows ends last done ⊎ HasNotRun last done → ArePlayed w old.origin rows b.entries
-  store-played done few ran = subst (λ (h : List Entry). ArePlayed w old.origin rows h) (sym value.0) (are-played w old.origin rows ends last are own done ran legal-seen few)
+  pub store-played : (done : Bool) → IsPlayStart old.origin → HasRun I D O P w old.origin rows ends last done ⊎ HasNotRun last done → ArePlayed w old.origin rows b.entries
+  store-played done start ran = subst (λ (h : List Entry). ArePlayed w old.origin rows h) (sym value.0) (are-played w old.origin rows ends last are own done ran legal-seen start)
 
-  pub store-answered : (done : Bool) → done ≡ true → cells_at old.origin [] ≤ 16000000 → HasRun I D O P w old.origin rows ends last done ⊎ HasNotRun last done → AreAnswered w old.origin rows b.entries ends
-  store-answered done sure few ran =
+  pub store-answered : (done : Bool) → done ≡ true → IsPlayStart old.origin → HasRun I D O P w old.origin rows ends last done ⊎ HasNotRun last done → AreAnswered w old.origin rows b.entries ends
+  store-answered done sure start ran =
       subst (λ (h : List Entry). AreAnswered w old.origin rows h ends) (sym value.0)
-      (are-answered w old.origin rows ends last are own (subst (λ (d : Bool). HasRun I D O P w old.origin rows ends last d ⊎ HasNotRun last d) sure ran) legal-seen few)
+      (are-answered w old.origin rows ends last are own (subst (λ (d : Bool). HasRun I D O P w old.origin rows ends last d ⊎ HasNotRun last d) sure ran) legal-seen start)

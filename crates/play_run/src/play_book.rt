@@ -1,5 +1,5 @@
 //! Plays rows on a book, and writes their report.
-ghost use Rattle.std.specs.Prelude.{◌≡◌, IfSome};
+ghost use Rattle.std.specs.Prelude.{◌≡◌, true, IfSome};
 ghost use Rattle.std.specs.Option.{option_map};
 ghost use Rattle.csv_rows.specs.InRows.{AreInRows};
 ghost use Rattle.kept_log.specs.Journal.{disk_in, failed_cell};
@@ -69,6 +69,7 @@ fn tell_book<I: Index, K: Sink, D: LogDisk>(
 ) -> Told<D>
     requires rows { AreInRows rows.now }
     requires numbers { IfSome played.ends (λ ends. HasNumbers rows.now ends.items) }
+    requires kept { played.book.kept ≡ true }
     ensures ends { EndsPlay report rows.now (failed_cell played.book.entries) played.book.leaves
         (option_map (λ ends. ends.items) played.ends) result.status (K.output sink.old) (K.output sink.new) }
     ensures history { result.history ≡ played.book.entries }

@@ -3,7 +3,7 @@ ghost use Rattle.std.specs.Prelude.{◌≡◌, ◌⊎◌, ◌+◌, ◌≤◌, []
 ghost use Rattle.csv_rows.specs.InRows.{AreInRows};
 ghost use Rattle.commit_book.specs.IsBook.{IsBook};
 ghost use Rattle.sessions.specs.Shared.{StartsAs, origin_of};
-ghost use Rattle.sessions.specs.Steps.{cells_at};
+ghost use Rattle.lane_history.specs.Settled.{IsPlayStart};
 ghost use Rattle.play_run.specs.inside.Dealt.{fresh_pass};
 ghost use Rattle.play_run.specs.inside.Joined.{HasRun, HasNotRun, HasAllParts};
 ghost use Rattle.play_run.specs.inside.Books.{IsNewBook};
@@ -73,7 +73,7 @@ fn play_store<
 ) -> Played<I, D>
     requires rows { AreInRows rows.now }
     requires pass { pass ≡ fresh_pass store pass.origin 65536 }
-    requires few { cells_at pass.origin [] ≤ 16000000 }
+    requires start { IsPlayStart pass.origin }
     ensures origin { origin_of D.drive result.book ≡ pass.origin }
     ensures played { ArePlayed I.WIDTH pass.origin rows.now result.book.entries }
     ensures answered { IfSome result.ends (λ ends. AreAnswered I.WIDTH pass.origin rows.now result.book.entries ends.items) }

@@ -1,5 +1,5 @@
 -- What lanes kept for the rows of their sessions, and books on which rows were played.
-use Rattle.std.specs.Prelude.{◌≡◌, ◌⊎◌, ℕ, ◌<◌, length, get_or, ◌==◌, Bool, List, [], ◌∷◌, map, if◌then◌else◌, Option, Some, None}
+use Rattle.std.specs.Prelude.{◌≡◌, ◌⊎◌, ℕ, ◌<◌, length, get_or, ◌==◌, Bool, true, List, [], ◌∷◌, map, if◌then◌else◌, Option, Some, None}
 use Rattle.plain_list.specs.declared.ops.Op.{Op}
 use Rattle.plain_list.specs.declared.entries.Entry.{Entry}
 use Rattle.plain_list.specs.Played.{IsPlayed, IsPlayedWhole}
@@ -60,13 +60,14 @@ pub record AreAnswered (w : ℕ) (origin : Origin) (rows : List InRow) (h : List
   pub answers : HasAnswers origin.world h rows ends
   pub settled : failed_cell h ≡ None → SplitsAreDone w origin.bucket (start_of origin) (first_cells origin) h
 
--- rows were played on a book
+-- rows were played on a book, which has the list of its entries
 pub record IsPlayedBook {D : Type 0} (w : ℕ) (rows : List InRow) (old new : BookView D) : Type 0 where
   pub opening : new.opening ≡ old.opening
   pub first : first_in new.log ≡ first_in old.log
   pub played : IsPlayed (session_rows rows) new.entries
   pub loses : (cell : ℕ) → failed_cell new.entries ≡ Some cell → LosesStep (IsNextStep w old.opening rows) new.entries cell
   pub limits : IsWithinLimits w old.bucket old.opening (first_in old.log) rows new.entries
+  pub kept : new.kept ≡ true
 
 -- each row was answered, and the splits at the end were settled
 pub record IsAnsweredBook {D : Type 0} (w : ℕ) (rows : List InRow) (old new : BookView D) (ends : List LaneEnd) : Type 0 where

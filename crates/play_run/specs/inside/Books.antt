@@ -1,5 +1,5 @@
 -- Books on which rows are played, and what they leave.
-use Rattle.std.specs.Prelude.{◌≡◌, ◌⊎◌, ℕ, ◌≤◌, false, List, [], length, Option, Some, None, ⊤}
+use Rattle.std.specs.Prelude.{◌≡◌, ◌⊎◌, ℕ, ◌≤◌, true, false, List, [], length, Option, Some, None, ⊤}
 use Rattle.std.specs.Option.{option_map}
 use Rattle.disk_trait.specs.Drive.{Drive, AttachedOne, SameFile, Stays}
 use Rattle.plain_list.specs.declared.entries.Entry.{Entry}
@@ -29,11 +29,12 @@ use Rattle.play_run.specs.Origin.{Origin, IsFoundOrigin}
 abbrev pub StopsBook : (List Entry → Lost → Type 0) → List Entry → Refusal → Type 0
 StopsBook Step h why = ((why ≡ refusal.Memory) × (failed_cell h ≡ None)) ⊎ ((cell : ℕ) × (why ≡ refusal.Disk (Some cell)) × LosesStep Step h cell)
 
--- a book of a world, without entries, that has room for rows
+-- a book of a world, without entries, that has room for rows and keeps the list of its entries
 pub record IsNewBook {D : Type 0} (b : BookView D) : Type 0 where
   pub entries : b.entries ≡ []
   pub few : cells_in b.log ≤ most_played
   pub world : IsWorld b.opening.world
+  pub kept : b.kept ≡ true
 
 -- the bytes, images, clock, fault count and file are those of the drive on which a log was opened
 pub record IsLike (old new : Drive) : Type 0 where

@@ -33,3 +33,6 @@ returns g c =
     subst (λ b. EndsBook drive g.I.Index.WIDTH report rows b end.history end.status end.disk before after) moved
     (subst (λ d. EndsBook drive g.I.Index.WIDTH report rows old end.history end.status d before after) (sym told.disk)
     (subst (λ h. EndsBook drive g.I.Index.WIDTH report rows old h end.status (disk_in new.log) before after) (sym told.history) all))
+
+pub tell_book-requires-clause-kept : goal.tell_book-requires-clause-kept
+tell_book-requires-clause-kept g c = c.play_sessions-played.ensures.played.kept

@@ -1,16 +1,16 @@
 use Rattle.std.proofs.Common.{ap, sym, ◌∙◌, rules}
 use Rattle.book_lock.specs.Pass.{Known}
 use Rattle.play_run.specs.inside.Dealt.{fresh_pass}
-use Rattle.play_run.proofs.PlayedOut.{played-not, played-from, answered-from, few-pass}
+use Rattle.play_run.proofs.PlayedOut.{played-not, played-from, answered-from, play-pass}
 use Rattle.play_run.proofs.sessions_play.play_sessions.Goals as goal
 
 pub returns-in-Err-clause-played : goal.returns-in-Err-clause-played
 returns-in-Err-clause-played g c =
     played-not g.D.LogDisk.drive g.I.Index.WIDTH c.args.rows.now c.args.book c.in-Err.book c.events-events.ensures.book c.events-events-in-Err.ensures.book c.requires.new c.in-Err.ensures.back
 
-pub play_store-requires-clause-few : goal.play_store-requires-clause-few
-play_store-requires-clause-few g c κs within =
-    few-pass g.D.LogDisk.drive g.I.Index.WIDTH c.args.rows.now c.args.book c.args.book c.events-events.ensures.book c.events-events.ensures.book c.requires.new c.in-Ok.pass.origin
+pub play_store-requires-clause-start : goal.play_store-requires-clause-start
+play_store-requires-clause-start g c κs within =
+    play-pass g.D.LogDisk.drive g.I.Index.WIDTH c.args.rows.now c.args.book c.args.book c.events-events.ensures.book c.events-events.ensures.book c.requires.new c.in-Ok.pass.origin
     (ap (λ (k : Known). k.origin) c.in-Ok.ensures.store)
 
 pub returns-in-Ok-clause-played : goal.returns-in-Ok-clause-played
