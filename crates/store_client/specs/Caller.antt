@@ -7,7 +7,7 @@ use Rattle.book_lock.specs.Pass.{Known}
 use Rattle.plain_list.specs.History.{world_after}
 use Rattle.plain_list.specs.World.{World}
 use Rattle.commit_book.specs.Room.{has_no_room}
-use Rattle.sessions.specs.Renewals.{cells_where_at}
+use Rattle.sessions.specs.Rooms.{cells_where_at}
 
 -- The pass belongs to this lock, and doesn't hold it.
 abbrev pub IsFree : TableId → Known → Type 0
@@ -21,14 +21,14 @@ KeepsPass old new = (new.lock ≡ old.lock) × (new.holds ≡ old.holds) × (new
 abbrev pub world_seen : Known → World
 world_seen pass = world_after pass.origin.world pass.seen
 
--- Whether there are too many entries or log records for a further split.
-abbrev pub is_near : Option ℕ → ℕ → Bool
-is_near None events = has_no_room 0 events
-is_near (Some cells) events = has_no_room cells events
+-- Whether there are too many entries or log records for a further split. `kept` is whether the list of entries is kept.
+abbrev pub is_near : Bool → Option ℕ → ℕ → Bool
+is_near kept None events = has_no_room kept 0 events
+is_near kept (Some cells) events = has_no_room kept cells events
 
 -- Whether there are too many after the history that a pass has seen.
 abbrev pub is_near_end : Known → Bool
-is_near_end pass = is_near (cells_where_at pass.origin pass.seen) (length pass.seen)
+is_near_end pass = is_near pass.origin.kept (cells_where_at pass.origin pass.seen) (length pass.seen)
 
 -- A client: its pass, its session, the number of its next row, and the place of its last call that was answered, or 0.
 pub record Caller : Type 0 where

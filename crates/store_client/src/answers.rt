@@ -1,4 +1,4 @@
-//! The answers of each verb.
+//! The answers of each verb, and how they come from the answer of the call that it makes.
 ghost use Rattle.std.specs.Prelude.{◌≡◌};
 ghost use Rattle.store_client.specs.Verbs.{put_answer, move_answer, gone_answer, at_answer, listed_answer, nearest_answer, IsOfPut, IsOfMove, IsOfRemove, IsOfFind, IsOfWithin, IsOfNear, put_report};
 
@@ -48,7 +48,8 @@ pub enum Report {
     Full,
 }
 
-pub(crate) fn put_reply(answer: Answer) -> PutReply
+/// The reply of a put that was answered so.
+pub fn put_reply(answer: Answer) -> PutReply
     requires { IsOfPut answer }
     ensures { put_answer result ≡ answer }
 {
@@ -60,7 +61,8 @@ pub(crate) fn put_reply(answer: Answer) -> PutReply
     }
 }
 
-pub(crate) fn move_reply(answer: Answer) -> MoveReply
+/// The reply of a move that was answered so.
+pub fn move_reply(answer: Answer) -> MoveReply
     requires { IsOfMove answer }
     ensures { move_answer result ≡ answer }
 {
@@ -72,7 +74,8 @@ pub(crate) fn move_reply(answer: Answer) -> MoveReply
     }
 }
 
-pub(crate) fn gone_reply(answer: Answer) -> Option<Stamped>
+/// The reply of a removal that was answered so.
+pub fn gone_reply(answer: Answer) -> Option<Stamped>
     requires { IsOfRemove answer }
     ensures { gone_answer result ≡ answer }
 {
@@ -83,7 +86,8 @@ pub(crate) fn gone_reply(answer: Answer) -> Option<Stamped>
     }
 }
 
-pub(crate) fn at_reply(answer: Answer) -> Option<Stamped>
+/// The reply of a look-up that was answered so.
+pub fn at_reply(answer: Answer) -> Option<Stamped>
     requires { IsOfFind answer }
     ensures { at_answer result ≡ answer }
 {
@@ -94,7 +98,8 @@ pub(crate) fn at_reply(answer: Answer) -> Option<Stamped>
     }
 }
 
-pub(crate) fn listed_reply(answer: Answer) -> Listed
+/// The reply of a query for a box that was answered so.
+pub fn listed_reply(answer: Answer) -> Listed
     requires { IsOfWithin answer }
     ensures { listed_answer result ≡ answer }
 {
@@ -105,7 +110,8 @@ pub(crate) fn listed_reply(answer: Answer) -> Listed
     }
 }
 
-pub(crate) fn nearest_reply(answer: Answer) -> PlacedList
+/// The reply of a query for the nearest objects that was answered so.
+pub fn nearest_reply(answer: Answer) -> PlacedList
     requires { IsOfNear answer }
     ensures { nearest_answer result ≡ answer }
 {
@@ -116,7 +122,7 @@ pub(crate) fn nearest_reply(answer: Answer) -> PlacedList
 }
 
 /// The answer of a report whose put returned this. It is `None` if another caller has put the object before.
-pub(crate) fn put_report(told: Result<PutReply, CallFault>) -> Result<Option<Report>, CallFault>
+pub fn put_report(told: Result<PutReply, CallFault>) -> Result<Option<Report>, CallFault>
     ensures { result ≡ put_report told }
 {
     match told {

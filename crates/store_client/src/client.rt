@@ -3,7 +3,7 @@ ghost use Rattle.std.specs.Prelude.{◌≡◌, false, IfOk};
 ghost use Rattle.plain_list.specs.Answer.{IsValid};
 ghost use Rattle.plain_list.specs.World.{IsWorld};
 ghost use Rattle.sessions.specs.Lanes.{Tries};
-ghost use Rattle.sessions.specs.Renewals.{room_at};
+ghost use Rattle.sessions.specs.Rooms.{room_at};
 ghost use Rattle.sessions.specs.Runs.{HasLooked};
 ghost use Rattle.sessions.specs.Splits.{SamePass};
 ghost use Rattle.sessions.specs.Views.{IsView};
@@ -144,8 +144,9 @@ impl<'s, I: Index, D: LogDisk, O: Start> Client<'s, I, D, O> {
         store.room(rt, &mut self.pass)
     }
 
-    /// Whether there are too many entries or log records for a further split. Then it is time to renew the store, or to
-    /// rotate it. The answer is as of a place after all that the client has seen.
+    /// Whether there are too many log records for a further split. Then it is time to rotate the store. It is also true
+    /// with too many entries, which only a book that keeps their list reaches. The answer is as of a place after all that
+    /// the client has seen.
     pub fn is_near_end<R: Wait>(&mut self, rt: &R) -> bool
         ensures looked { HasLooked self.old.pass self.new.pass }
         ensures near { result ≡ is_near_end self.new.pass }

@@ -13,7 +13,7 @@
 //! | `work_all` | lets a team work at once, each in its own thread (`TeamDid`) |
 //!
 //! No call changes a client's store, its origin, its parts or its session (`Keeps`). So a caller that has joined all
-//! clients again may renew or close the store. The limits of a store are constants here.
+//! clients again may rotate or close the store. The limits of a store are constants here.
 //!
 //! Not here: what a store is, and how it is opened and closed (`sessions`).
 #![tactic(auto)]
@@ -28,13 +28,16 @@ mod limits;
 mod shares;
 mod verbs;
 
-pub use answers::{Listed, MoveReply, PutReply, Report};
+pub use answers::{
+    Listed, MoveReply, PutReply, Report, at_reply, gone_reply, listed_reply, move_reply,
+    nearest_reply, put_reply, put_report,
+};
 pub use batch::{Batch, MOST_BATCH, NotAdded};
 pub use batches::{Replies, more_splits, rows_of, split_some};
 pub use client::{Client, Reply, try_split};
 pub use crowd::{Work, Worker, at_once};
 pub use limits::{
-    MOST_CELLS, MOST_CELLS_TO_BEGIN, MOST_CLIENTS, MOST_EVENTS, MOST_EVENTS_TO_BEGIN, MOST_LISTED,
-    MOST_MEMBERS, MOST_NEAREST,
+    MOST_CELLS, MOST_CELLS_TO_BEGIN, MOST_CLIENTS, MOST_LISTED, MOST_MEMBERS, MOST_NEAREST,
+    has_no_room,
 };
 pub use plain_list::Change;
