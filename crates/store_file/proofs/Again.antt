@@ -88,8 +88,8 @@ some_of None is = absurd (true≢false (sym is))
 some_of (Some bytes) is = (bytes, refl)
 
 module _ {D E : Type 0} (drive : D → Drive) (other : E → Drive) (w bucket size : ℕ) (file also : List ℕ) (old : Drive) (Is : Drive → Type 0) (lock key : TableId) (pass last next : Known) (points number : ℕ) (latest newer : Option ℕ) (records more : ℕ)
-    (entries : List Entry) (disk : D) (opened : OpensStore drive w bucket file old lock pass points latest records) (one : last.origin ≡ pass.origin) (told : is_some old.bytes ≡ true)
-    (closed : ClosesStore drive w Is last entries disk) (good : failed_cell last.seen ≡ None) where
+    (disk : D) (opened : OpensStore drive w bucket file old lock pass points latest records) (one : last.origin ≡ pass.origin) (told : is_some old.bytes ≡ true)
+    (closed : ClosesStore drive w Is last disk) (good : failed_cell last.seen ≡ None) where
   -- The file is the text of the cells that the opening found and of the history's. A crash leaves that text.
   pub text-closed : IsLog w (opened.cells ++ cells_of pass.origin.world last.seen) (drive disk)
   text-closed =
@@ -117,8 +117,8 @@ module _ {D E : Type 0} (drive : D → Drive) (other : E → Drive) (w bucket si
         ∙ ap (λ (s : State). s.world) (cells_after-append w empty_state opened.cells (cells_of pass.origin.world last.seen))
         ∙ cells-world w (state_of w opened.cells) pass.origin.world last.seen (sym first)
 
--- A store that was closed, whatever it began from: the opening of a file, or a renewal or a rotation after others.
-module _ {D : Type 0} (drive : D → Drive) (w : ℕ) (Is : Drive → Type 0) (last : Known) (entries : List Entry) (disk : D) (closed : ClosesStore drive w Is last entries disk)
+-- A store that was closed, whatever it began from: the opening of a file, or a rotation after others.
+module _ {D : Type 0} (drive : D → Drive) (w : ℕ) (Is : Drive → Type 0) (last : Known) (disk : D) (closed : ClosesStore drive w Is last disk)
     (told : is_some (drive disk).bytes ≡ true) (good : failed_cell last.seen ≡ None) where
   -- The bytes of its log at the beginning, and the cells that these bytes recover to.
   pub bytes-first : (bytes : List ℕ) × ((drive closed.log.start).bytes ≡ Some bytes)

@@ -7,7 +7,6 @@ use Rattle.cell_format.specs.declared.cell.Cell.{Cell}
 use Rattle.cell_format.specs.Spelling.{newest}
 use Rattle.disk_trait.specs.Drive.{Drive}
 use Rattle.disk_trait.specs.Moments.{LeavesNow}
-use Rattle.plain_list.specs.declared.entries.Entry.{Entry}
 use Rattle.plain_list.specs.World.{World}
 use Rattle.plain_list.specs.History.{world_after, failed_cell}
 use Rattle.plain_list.specs.State.{State, at_rest, empty_state, is_legal_history}
@@ -149,8 +148,8 @@ module _ (w : ℕ) (cells fresh : List Cell) (old : Drive) (log : IsLog w cells 
   )
 
 -- A store that was opened over a file continues over a second one, with any leaves.
-module _ {D : Type 0} (drive : D → Drive) (w bucket : ℕ) (file : List ℕ) (old : Drive) (lock : TableId) (pass last : Known) (points : ℕ) (latest : Option ℕ) (records : ℕ) (Are : List (List Bool) → Type 0) (entries : List Entry) (disk spare : D) (origin : Origin) (count : ℕ)
-    (opened : OpensStore drive w bucket file old lock pass points latest records) (one : last.origin ≡ pass.origin) (told : is_some old.bytes ≡ true) (to : RotatesTo drive w Are last entries disk spare origin count) where
+module _ {D : Type 0} (drive : D → Drive) (w bucket : ℕ) (file : List ℕ) (old : Drive) (lock : TableId) (pass last : Known) (points : ℕ) (latest : Option ℕ) (records : ℕ) (Are : List (List Bool) → Type 0) (disk spare : D) (origin : Origin) (count : ℕ)
+    (opened : OpensStore drive w bucket file old lock pass points latest records) (one : last.origin ≡ pass.origin) (told : is_some old.bytes ≡ true) (to : RotatesTo drive w Are last disk spare origin count) where
   -- The cells of the first file, and those of the second one.
   abbrev pub cells-closed : List Cell
   cells-closed = opened.cells ++ cells_of pass.origin.world last.seen
@@ -159,7 +158,7 @@ module _ {D : Type 0} (drive : D → Drive) (w bucket : ℕ) (file : List ℕ) (
   fresh-closed = cells_left w last.origin last.seen origin.leaves
 
   log-closed : IsLog w cells-closed (drive disk)
-  log-closed = text-closed drive drive w bucket bucket file file old (λ start. ⊤) lock lock pass last last points points latest latest records records entries disk opened one told to.closed to.good
+  log-closed = text-closed drive drive w bucket bucket file file old (λ start. ⊤) lock lock pass last last points points latest latest records records disk opened one told to.closed to.good
 
   first-world : pass.origin.world ≡ (state_of w opened.cells).world
   first-world = ap (λ (k : Known). k.origin.world) opened.pass_is
@@ -195,17 +194,17 @@ module _ {D : Type 0} (drive : D → Drive) (w bucket : ℕ) (file : List ℕ) (
 
 -- The same for a store that begins after any earlier history (`text-last`, proofs/Again). The second file is written
 -- with cells that leave the same objects, as those of `RotatesTo` do. Then the first file is cleared.
-module _ {D : Type 0} (drive : D → Drive) (w : ℕ) (Is : Drive → Type 0) (last : Known) (entries : List Entry) (disk : D) (closed : ClosesStore drive w Is last entries disk)
+module _ {D : Type 0} (drive : D → Drive) (w : ℕ) (Is : Drive → Type 0) (last : Known) (disk : D) (closed : ClosesStore drive w Is last disk)
     (told : is_some (drive disk).bytes ≡ true) (good : failed_cell last.seen ≡ None) (fresh : List Cell) (legal : IsLegalCells w fresh)
     (world_is : (state_of w fresh).world ≡ world_after last.origin.world last.seen) where
   abbrev pub cells-stood : List Cell
-  cells-stood = cells-last drive w Is last entries disk closed told good
+  cells-stood = cells-last drive w Is last disk closed told good
 
   log-stood : IsLog w cells-stood (drive disk)
-  log-stood = text-last drive w Is last entries disk closed told good
+  log-stood = text-last drive w Is last disk closed told good
 
   legal-stood : IsLegalCells w cells-stood
-  legal-stood = legal-last drive w Is last entries disk closed told good
+  legal-stood = legal-last drive w Is last disk closed told good
 
   pub last-written : (spare now : Drive) (bytes : List ℕ) → spare.bytes ≡ Some bytes → LeavesNow spare IsSmall → KeepsOnWay w fresh spare now
       → (first second : List ℕ) → (drive disk).images first → now.since spare.clock second → IsBetween w cells-stood fresh first second
@@ -221,4 +220,4 @@ module _ {D : Type 0} (drive : D → Drive) (w : ℕ) (Is : Drive → Type 0) (l
         → (other (chosen_of side three four)).bytes ≡ Some first → (other (other_of side three four)).bytes ≡ Some second → next.origin.world ≡ world_after last.origin.world last.seen
     finds-last-left =
         finds-between other w size one_file two_file three four key next number newer more left (world_after last.origin.world last.seen) cells-stood fresh
-        (world-last drive w Is last entries disk closed told good) world_is first second between
+        (world-last drive w Is last disk closed told good) world_is first second between

@@ -7,4 +7,3 @@ mod RotateFacts
 pub mod Again
 pub mod Between
 pub mod Fewest
-mod RenewFacts

@@ -1,6 +1,5 @@
 -- From a file that was opened to a store over it, and back to its log.
-use Rattle.std.proofs.Common.{◌≡◌, inl, inr, ⊎_elim, ◌∙◌, ℕ, ◌<◌, true, List, [], length, Option, Some, None, is_some, refl, sym, ap, subst}
-use Rattle.std.specs.Prelude.{⊤}
+use Rattle.std.proofs.Common.{◌≡◌, inl, inr, ⊎_elim, ◌∙◌, ℕ, ◌<◌, Bool, true, false, List, [], length, Option, Some, None, is_some, refl, sym, ap, subst}
 use mathlib.Core.Bool.{true≢false}
 use Rattle.std.proofs.lemmas.Option.{same_Some}
 use Rattle.std.specs.Option.{option_map}
@@ -27,9 +26,6 @@ use Rattle.commit_book.specs.BookView.{BookView}
 use Rattle.commit_book.specs.IsBook.{IsBook}
 use Rattle.commit_book.specs.OpenedLog.{IsOpenedLog}
 use Rattle.sessions.specs.Shared.{StartsAs, origin_of, start_in, start_of}
-use Rattle.sessions.specs.Renewals.{StartsBack}
-use Rattle.sessions.specs.declared.store.renewal.NotRenewed.{NotRenewed}
-use Rattle.sessions.specs.declared.store.renewal.NotRenewed.TheVariants as renewing
 use Rattle.store_file.specs.declared.faults.OpenCause.{OpenCause}
 use Rattle.store_file.specs.declared.faults.OpenCause.TheVariants as cause
 use Rattle.store_file.specs.Files.{OpensFile, FindsCells}
@@ -37,7 +33,6 @@ use Rattle.store_file.specs.Refused.{NotOpens, RefusesStore, is_bucket}
 use Rattle.store_file.specs.Opened.{OpensStore, BeginsOver, IsFirst, FindsLog, first_pass, found_origin, cells_origin}
 use Rattle.store_file.specs.Objects.{IsLatest}
 use Rattle.store_file.specs.Closed.{ClosesStore}
-use Rattle.store_file.specs.Renewed.{HasLogBack}
 use Rattle.store_file.proofs.FileFacts.{small-or-long, no-cells-told}
 
 -- A book over a log has a drive.
@@ -50,24 +45,18 @@ module _ {D : Type 0} where
   has-log drive unlogged Is None logged starts = absurd (logged starts)
   has-log drive unlogged Is (Some log) logged starts = refl
 
--- A book that is returned from a store over a file has a log.
-pub log-back : {I D P : Type 0} (drive : D → Drive) (e : NotRenewed I D P) → StartsBack drive ⊥ (λ d. ⊤) ⊥ (λ d. ⊤) e → HasLogBack e
-log-back drive (renewing.Kept book cause) starts = has-log drive ⊥ (λ d. ⊤) book.log (λ none. none) starts
-log-back drive (renewing.Memory book entries) starts = has-log drive ⊥ (λ d. ⊤) book.log (λ none. none) starts
-
 -- What a closed book leaves.
-module _ {D : Type 0} (drive : D → Drive) (w : ℕ) (unlogged : Type 0) (Is : Drive → Type 0) (b : BookView D) (pass : Known) (entries : List Entry) (disk : D) (is_book : IsBook drive w b)
+module _ {D : Type 0} (drive : D → Drive) (w : ℕ) (unlogged : Type 0) (Is : Drive → Type 0) (b : BookView D) (pass : Known) (disk : D) (is_book : IsBook drive w b)
     (value : (b.entries ≡ pass.seen) × (origin_of drive b ≡ pass.origin)) (own : (p : ℕ) → times p pass.own ≡ once_below p (length pass.seen)) (logged : unlogged → ⊥) (starts : StartsAs drive unlogged Is b.log)
-    (entries_are : entries ≡ b.entries) (disk_is : disk_in b.log ≡ Some disk) where
+    (disk_is : disk_in b.log ≡ Some disk) where
   began-at : b.opening ≡ start_of pass.origin
   began-at = (λ i. record { world = b.opening.world; leaves = b.opening.leaves; splits = is_book.opening.rests i; begun = b.opening.begun }) ∙ ap start_of value.1
 
   -- The log has the same number of cells.
-  cells-by-log : (log : Option (KeptView D)) → b.log ≡ log → (closed : ClosesStore drive w Is pass entries disk) × (closed.log.cells ≡ cells_in log)
+  cells-by-log : (log : Option (KeptView D)) → b.log ≡ log → (closed : ClosesStore drive w Is pass disk) × (closed.log.cells ≡ cells_in log)
   cells-by-log None is = absurd (logged (subst (StartsAs drive unlogged Is) is starts))
   cells-by-log (Some log) is = (
     record {
-      entries_are = entries_are ∙ value.0;
       own = own;
       legal = subst (λ (s : State). IsLegal w s pass.seen) began-at (subst (λ (h : List Entry). IsLegal w b.opening h) value.0 is_book.legal);
       log = log;
@@ -80,14 +69,14 @@ module _ {D : Type 0} (drive : D → Drive) (w : ℕ) (unlogged : Type 0) (Is : 
     refl,
   )
 
-  pub closes-counted : (closed : ClosesStore drive w Is pass entries disk) × (closed.log.cells ≡ cells_in b.log)
+  pub closes-counted : (closed : ClosesStore drive w Is pass disk) × (closed.log.cells ≡ cells_in b.log)
   closes-counted = cells-by-log b.log refl
 
-  pub closes-store : ClosesStore drive w Is pass entries disk
+  pub closes-store : ClosesStore drive w Is pass disk
   closes-store = closes-counted.0
 
 -- A book over what was found begins with it.
-module _ {D : Type 0} (drive : D → Drive) (bucket : ℕ) (seen : Seen) (b : BookView D) (log : KeptView D) (opening : b.opening ≡ found_state seen) (sized : b.bucket ≡ bucket) (log_is : b.log ≡ Some log) where
+module _ {D : Type 0} (drive : D → Drive) (kept : Bool) (bucket : ℕ) (seen : Seen) (b : BookView D) (log : KeptView D) (opening : b.opening ≡ found_state seen) (kind : b.kept ≡ kept) (sized : b.bucket ≡ bucket) (log_is : b.log ≡ Some log) where
   pub found-world : IsWorld seen.world → IsWorld b.opening.world
   found-world is = subst IsWorld (sym (ap (λ (s : State). s.world) opening)) is
 
@@ -97,7 +86,7 @@ module _ {D : Type 0} (drive : D → Drive) (bucket : ℕ) (seen : Seen) (b : Bo
   pub found-disk : (disk : D) → disk_in b.log ≡ Some disk → disk ≡ log.disk
   found-disk disk is = same_Some disk log.disk (sym is ∙ ap disk_in log_is)
 
-  pub found-origin : log.first ≡ seen.cells → origin_of drive b ≡ found_origin bucket seen (drive log.start)
+  pub found-origin : log.first ≡ seen.cells → origin_of drive b ≡ found_origin kept bucket seen (drive log.start)
   found-origin first = λ i. record {
     world = (opening i).world;
     leaves = (opening i).leaves;
@@ -105,16 +94,18 @@ module _ {D : Type 0} (drive : D → Drive) (bucket : ℕ) (seen : Seen) (b : Bo
     log = (ap (λ (l : Option (KeptView D)). option_map (start_in drive) l) log_is
         ∙ ap (λ (n : ℕ). Some (record { cells = n; bytes = (drive log.start).bytes; clock = (drive log.start).clock; faults = (drive log.start).faults })) first) i;
     bucket = sized i;
+    kept = kind i;
   }
 
 -- What was found is what the cells of the log leave.
-pub cells-found : (w bucket : ℕ) (old start : Drive) (seen : Seen) (found : IsFound newest w most_cells old seen) → found_origin bucket seen start ≡ cells_origin w bucket found.cells start
-cells-found w bucket old start seen found = λ i. record {
+pub cells-found : (kept : Bool) (w bucket : ℕ) (old start : Drive) (seen : Seen) (found : IsFound newest w most_cells old seen) → found_origin kept bucket seen start ≡ cells_origin kept w bucket found.cells start
+cells-found kept w bucket old start seen found = λ i. record {
   world = found.finds.world i;
   leaves = found.finds.leaves i;
   begun = found.finds.begun i;
   log = Some (record { cells = found.finds.count i; bytes = start.bytes; clock = start.clock; faults = start.faults });
   bucket = bucket;
+  kept = kept;
 }
 
 -- A store over a file that was opened.
@@ -145,7 +136,7 @@ module _ {D : Type 0} (drive : D → Drive) (w bucket : ℕ) (file : List ℕ) (
         readies = opens.readies;
         cells = opens.found.cells;
         found = finds-log;
-        pass_is = begins.pass_is ∙ ap (first_pass lock) (cells-found w bucket (drive start) (drive start) seen opens.found);
+        pass_is = begins.pass_is ∙ ap (first_pass lock) (cells-found false w bucket (drive start) (drive start) seen opens.found);
         world = subst IsWorld world begins.world;
         points_are = begins.points_are ∙ ap length world;
         latest_is = subst (λ l. IsLatest l latest) world begins.latest_is;

@@ -1,7 +1,6 @@
 -- A store over a file that was closed.
-use Rattle.std.specs.Prelude.{◌≡◌, ℕ, List, length, Some}
+use Rattle.std.specs.Prelude.{◌≡◌, ℕ, length, Some}
 use Rattle.disk_trait.specs.Drive.{Drive}
-use Rattle.plain_list.specs.declared.entries.Entry.{Entry}
 use Rattle.plain_list.specs.State.{IsLegal}
 use Rattle.kept_log.specs.KeptView.{KeptView}
 use Rattle.kept_log.specs.Journal.{KeepsLog}
@@ -12,8 +11,7 @@ use Rattle.sessions.specs.Shared.{start_in, start_of}
 -- The history is what the last pass has seen. All of it is the pass's own, and it is legal from the origin. The log has
 -- kept it since the opening, and the fact held of the drive at that moment. If no append has failed, the file is the
 -- text of the first cells and of the history's. A crash leaves that text.
-pub record ClosesStore {D : Type 0} (drive : D → Drive) (w : ℕ) (Is : Drive → Type 0) (pass : Known) (entries : List Entry) (disk : D) : Type 0 where
-  pub entries_are : entries ≡ pass.seen
+pub record ClosesStore {D : Type 0} (drive : D → Drive) (w : ℕ) (Is : Drive → Type 0) (pass : Known) (disk : D) : Type 0 where
   pub own : (p : ℕ) → times p pass.own ≡ once_below p (length pass.seen)
   pub legal : IsLegal w (start_of pass.origin) pass.seen
   pub log : KeptView D

@@ -6,7 +6,6 @@ pub mod Refused
 pub mod Closed
 pub mod Again
 pub mod Either
-pub mod Renewed
 pub mod Rotated
 pub use Rattle.recovery.specs.Opening
 pub use Rattle.recovery.specs.Calls

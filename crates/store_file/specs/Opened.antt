@@ -1,5 +1,5 @@
 -- A store that was opened over a file.
-use Rattle.std.specs.Prelude.{◌≡◌, ℕ, ◌≤◌, false, List, [], length, Option, Some}
+use Rattle.std.specs.Prelude.{◌≡◌, ℕ, ◌≤◌, Bool, false, List, [], length, Option, Some}
 use Rattle.atomic_table.specs.Seated.{TableId}
 use Rattle.cell_format.specs.declared.cell.Cell.{Cell}
 use Rattle.disk_trait.specs.Drive.{Drive}
@@ -24,29 +24,33 @@ pub record IsFirst (lock : TableId) (pass : Known) : Type 0 where
   pub off : pass.holds ≡ false
   pub parts : pass.parts ≡ all_parts
 
--- The origin of a store over what was found in a log. `start` is the drive at that moment.
-abbrev pub found_origin : ℕ → Seen → Drive → Origin
-found_origin bucket seen start = record {
+-- The origin of a store over what was found in a log. `start` is the drive at that moment, and `kept` is whether its book
+-- keeps the list of its entries.
+abbrev pub found_origin : Bool → ℕ → Seen → Drive → Origin
+found_origin kept bucket seen start = record {
   world = seen.world;
   leaves = seen.leaves;
   begun = seen.begun;
   log = Some (record { cells = seen.cells; bytes = start.bytes; clock = start.clock; faults = start.faults });
   bucket = bucket;
+  kept = kept;
 }
 
 -- The same origin, computed from the cells of the log.
-abbrev pub cells_origin : ℕ → ℕ → List Cell → Drive → Origin
-cells_origin w bucket cells start = record {
+abbrev pub cells_origin : Bool → ℕ → ℕ → List Cell → Drive → Origin
+cells_origin kept w bucket cells start = record {
   world = (state_of w cells).world;
   leaves = (state_of w cells).leaves;
   begun = (state_of w cells).begun;
   log = Some (record { cells = length cells; bytes = start.bytes; clock = start.clock; faults = start.faults });
   bucket = bucket;
+  kept = kept;
 }
 
--- A store over what was found in a log, with its first pass. The numbers are those of what was found.
+-- A store over what was found in a log, with its first pass. Its book keeps no list of its entries. The numbers are those
+-- of what was found.
 pub record BeginsOver {D : Type 0} (drive : D → Drive) (bucket : ℕ) (seen : Seen) (start : D) (lock : TableId) (pass : Known) (points : ℕ) (latest : Option ℕ) (records : ℕ) : Type 0 where
-  pub pass_is : pass ≡ first_pass lock (found_origin bucket seen (drive start))
+  pub pass_is : pass ≡ first_pass lock (found_origin false bucket seen (drive start))
   pub world : IsWorld seen.world
   pub points_are : points ≡ length seen.world
   pub latest_is : IsLatest seen.world latest
@@ -67,7 +71,7 @@ pub record OpensStore {D : Type 0} (drive : D → Drive) (w bucket : ℕ) (file 
   pub readies : ReadiesLog w file old (drive start)
   pub cells : List Cell
   pub found : FindsLog w cells old (drive start)
-  pub pass_is : pass ≡ first_pass lock (cells_origin w bucket cells (drive start))
+  pub pass_is : pass ≡ first_pass lock (cells_origin false w bucket cells (drive start))
   pub world : IsWorld pass.origin.world
   pub points_are : points ≡ length pass.origin.world
   pub latest_is : IsLatest pass.origin.world latest

@@ -4,7 +4,7 @@ use Rattle.std.specs.Prelude.{◌≡◌, ℕ, ◌<◌, ◌≤◌, true, Bool, Li
 use Rattle.atomic_table.specs.Seated.{TableId}
 use Rattle.cell_format.specs.declared.cell.Cell.{Cell}
 use Rattle.disk_trait.specs.Drive.{Drive}
-use Rattle.index_layer.specs.Leaves.{Leaf}
+use Rattle.index_layer.specs.Leaves.{Leaf, names_of}
 use Rattle.plain_list.specs.declared.entries.Entry.{Entry}
 use Rattle.plain_list.specs.World.{World, IsWorld}
 use Rattle.plain_list.specs.History.{world_after, failed_cell}
@@ -15,7 +15,10 @@ use Rattle.recovery.specs.declared.seen.Seen.{Seen}
 use Rattle.recovery.specs.Found.{Finds}
 use Rattle.kept_log.specs.Journal.{cells_in, disk_in}
 use Rattle.commit_book.specs.OpenedLog.{IsOpenedLog}
-use Rattle.commit_book.specs.Rotation.{HasContent, HasContentAnew}
+use Rattle.commit_book.specs.IsBook.{IsBook}
+use Rattle.commit_book.specs.declared.faults.BookFault.{BookFault}
+use Rattle.commit_book.specs.declared.faults.BookFault.TheVariants as book
+use Rattle.book_lock.specs.Own.{times, once_below}
 use Rattle.book_lock.specs.Pass.{Known}
 use Rattle.book_lock.specs.declared.origin.Origin.{Origin}
 use Rattle.commit_book.specs.BookView.{BookView}
@@ -24,7 +27,7 @@ use Rattle.log_compact.specs.declared.compacting.CompactFault.TheVariants as com
 use Rattle.log_compact.specs.Compacting.{IsCompacted, RefusesCompact, KeepsOnWay}
 use Rattle.log_compact.specs.Fresh.{fresh_cells}
 use Rattle.log_compact.specs.State.{IsStateOf}
-use Rattle.sessions.specs.Shared.{HasWorld, origin_of, start_of}
+use Rattle.sessions.specs.Shared.{HasWorld, StartsAs, origin_of, start_of}
 use Rattle.store_file.specs.declared.rotating.RotateCause.{RotateCause}
 use Rattle.store_file.specs.declared.rotating.RotateCause.TheVariants.{Closed, InUse, TooLong, Memory}
 use Rattle.store_file.specs.declared.rotating.BeginCause.{BeginCause}
@@ -33,7 +36,7 @@ use Rattle.store_file.specs.declared.rotating.NotRotated.{NotRotated}
 use Rattle.store_file.specs.declared.rotating.NotRotated.TheVariants as back
 use Rattle.log_compact.specs.Clearing.{Clears, FailsToClear, KeepsOrClears}
 use Rattle.store_file.specs.Closed.{ClosesStore}
-use Rattle.point_table.specs.Sized.{FitsSize}
+use Rattle.point_table.specs.Sized.{FitsSize, StandsBySize}
 use Rattle.store_file.specs.Opened.{first_pass, cells_origin, found_origin}
 
 -- The objects that a history left, and the names of the leaves.
@@ -54,19 +57,12 @@ AreLeft w origin seen leaves = leaves ≡ leaves_left w origin seen
 abbrev pub AreAnew : ℕ → Origin → List Entry → List (List Bool) → Type 0
 AreAnew w origin seen leaves = FitsSize w origin.bucket (world_left origin seen) leaves
 
--- The same for a book.
-abbrev pub AreOfBook : {D : Type 0} → ℕ → BookView D → List (List Bool) → Type 0
-AreOfBook w b leaves = leaves ≡ (state_after w b.opening b.entries).leaves
-
-abbrev pub AreOfSize : {D : Type 0} → ℕ → BookView D → List (List Bool) → Type 0
-AreOfSize w b leaves = FitsSize w b.bucket (world_after b.opening.world b.entries) leaves
-
 -- A store continues from the place where this pass saw its history end. The first log is closed: no append has failed,
 -- and it keeps the history. Only then was the second log begun, as a fresh log of the objects that the history left,
 -- with such leaves. The new store begins with that log. At each moment of the writing a crash leaves an image on the
 -- way to the fresh log. After the writing it leaves exactly these cells.
-pub record RotatesTo {D : Type 0} (drive : D → Drive) (w : ℕ) (Are : List (List Bool) → Type 0) (old : Known) (entries : List Entry) (last spare : D) (origin : Origin) (count : ℕ) : Type 0 where
-  pub closed : ClosesStore drive w (λ start. ⊤) old entries last
+pub record RotatesTo {D : Type 0} (drive : D → Drive) (w : ℕ) (Are : List (List Bool) → Type 0) (old : Known) (last spare : D) (origin : Origin) (count : ℕ) : Type 0 where
+  pub closed : ClosesStore drive w (λ start. ⊤) old last
   -- The number of cells that the first log has.
   pub counted : closed.log.cells ≡ count
   pub good : failed_cell old.seen ≡ None
@@ -75,7 +71,7 @@ pub record RotatesTo {D : Type 0} (drive : D → Drive) (w : ℕ) (Are : List (L
   pub on_way : KeepsOnWay w (cells_left w old.origin old.seen origin.leaves) (drive spare) (drive start)
   pub state : IsStateOf w (cells_left w old.origin old.seen origin.leaves) (world_left old.origin old.seen) origin.leaves
   pub few : length (cells_left w old.origin old.seen origin.leaves) ≤ most_cells
-  pub origin_is : origin ≡ cells_origin w old.origin.bucket (cells_left w old.origin old.seen origin.leaves) (drive start)
+  pub origin_is : origin ≡ cells_origin old.origin.kept w old.origin.bucket (cells_left w old.origin old.seen origin.leaves) (drive start)
   pub world_is : origin.world ≡ world_left old.origin old.seen
   pub leaves_are : Are origin.leaves
   pub world : IsWorld origin.world
@@ -85,30 +81,36 @@ pub record LeavesLog {D : Type 0} (drive : D → Drive) (Came : ℕ → Drive �
   pub came : Came count (drive last) (drive left)
   pub keeps : KeepsOrClears (drive last) (drive left)
 
--- The new store, its first pass, and the history of the old store. The log of the first drive no longer has any cells.
-pub record IsRotated {D : Type 0} (drive : D → Drive) (w : ℕ) (Are : List (List Bool) → Type 0) (old : Known) (entries : List Entry) (spare : D) (lock : TableId) (pass : Known) (left : D) : Type 0 where
+-- The new store and its first pass. The log of the first drive no longer has any cells.
+pub record IsRotated {D : Type 0} (drive : D → Drive) (w : ℕ) (Are : List (List Bool) → Type 0) (old : Known) (spare : D) (lock : TableId) (pass : Known) (left : D) : Type 0 where
   pub last : D
   pub count : ℕ
-  pub to : RotatesTo drive w Are old entries last spare pass.origin count
+  pub to : RotatesTo drive w Are old last spare pass.origin count
   pub pass_is : pass ≡ first_pass lock pass.origin
   pub leaves : LeavesLog drive Clears count last left
 
 -- Only the book, which continues over the second log, and has no entries.
-pub record IsRotatedAlone {D : Type 0} (drive : D → Drive) (w : ℕ) (Are : List (List Bool) → Type 0) (Came : ℕ → Drive → Drive → Type 0) (old : Known) (entries : List Entry) (spare : D) (b : BookView D) (left : D) : Type 0 where
+pub record IsRotatedAlone {D : Type 0} (drive : D → Drive) (w : ℕ) (Are : List (List Bool) → Type 0) (Came : ℕ → Drive → Drive → Type 0) (old : Known) (spare : D) (b : BookView D) (left : D) : Type 0 where
   pub last : D
   pub count : ℕ
-  pub to : RotatesTo drive w Are old entries last spare (origin_of drive b) count
+  pub to : RotatesTo drive w Are old last spare (origin_of drive b) count
   pub none : b.entries ≡ []
   pub has : HasWorld b
   pub logged : is_some b.log ≡ true
   pub leaves : LeavesLog drive Came count last left
 
--- The unchanged book.
-pub record IsBookKept {D : Type 0} (drive : D → Drive) (old : Known) (b : BookView D) : Type 0 where
-  pub entries_are : b.entries ≡ old.seen
-  pub origin_is : origin_of drive b ≡ old.origin
+-- The book of a store that was closed with this pass.
+pub record IsClosedBook {D : Type 0} (drive : D → Drive) (w : ℕ) (pass : Known) (b : BookView D) : Type 0 where
+  pub book : IsBook drive w b
+  pub value : (b.entries ≡ pass.seen) × (origin_of drive b ≡ pass.origin)
+  pub own : (p : ℕ) → times p pass.own ≡ once_below p (length pass.seen)
+  pub starts : StartsAs drive ⊥ (λ start. ⊤) b.log
   pub has : HasWorld b
-  pub logged : is_some b.log ≡ true
+
+-- The cause if a store returns no content.
+abbrev pub content_cause : BookFault → RotateCause
+content_cause (book.Closed cell) = Closed cell
+content_cause _ = Memory
 
 -- The cause that a fault of the fresh log is reported as.
 abbrev pub begin_cause : CompactFault → BeginCause
@@ -148,21 +150,22 @@ abbrev pub NotBegins : {D : Type 0} → (D → Drive) → ℕ → (List (List Bo
 NotBegins drive w Are failed world spare left (begun.Refused cause) = RefusesAnew drive w Are failed world spare left cause
 NotBegins drive w Are failed world spare left begun.Unsure = IsUnsure drive w Are failed world spare left
 
--- The book and the second drive are returned, as the cause says.
-abbrev pub ComesBack : {I D P : Type 0} → BookView D → D → BeginCause → NotRotated I D P → Type 0
-ComesBack b left (begun.Refused cause) e = e ≡ back.Kept b left cause
-ComesBack b left begun.Unsure e = e ≡ back.Unsure b left
+-- What is returned if no log was begun. If nothing was written there, it is the unchanged store with its pass, and the
+-- second drive. Otherwise the store was closed, and both drives are returned.
+abbrev pub ComesBack : {I D P : Type 0} → (D → Drive) → ℕ → Known → D → BeginCause → NotRotated I D P → Type 0
+ComesBack drive w pass left (begun.Refused cause) e = e ≡ back.Kept pass.lock pass left cause
+ComesBack {D = D} drive w pass left begun.Unsure e = (disk : D) × (e ≡ back.Unsure disk left) × ClosesStore drive w (λ start. ⊤) pass disk
 
--- What is returned if there is no store. Either it is the unchanged book over its log, and the second drive, which is
--- unchanged or failed. Or it is the book over the second log: the first drive failed while its log was cleared, or
--- memory ran out after that.
+-- What is returned if the store doesn't continue over the second drive. If nothing was written there, it is the same
+-- store, with its pass unchanged. If the second drive failed, the store was closed, and its log keeps the history. Else it
+-- is the book over the second log: the first drive failed while its log was cleared, or memory ran out after that.
 abbrev pub IsNotRotated : {I D P : Type 0} → (D → Drive) → ℕ → (List (List Bool) → Type 0) → Known → D → NotRotated I D P → Type 0
-IsNotRotated drive w Are old spare (back.Kept book left cause) =
-    IsBookKept drive old book × RefusesAnew drive w Are (failed_cell old.seen) (world_left old.origin old.seen) spare left cause
-IsNotRotated drive w Are old spare (back.Unsure book left) =
-    IsBookKept drive old book × IsUnsure drive w Are (failed_cell old.seen) (world_left old.origin old.seen) spare left
-IsNotRotated drive w Are old spare (back.Uncleared book entries left) = IsRotatedAlone drive w Are (λ count. FailsToClear) old entries spare book left
-IsNotRotated drive w Are old spare (back.Memory book entries left) = IsRotatedAlone drive w Are Clears old entries spare book left
+IsNotRotated drive w Are old spare (back.Kept store pass left cause) =
+    (store ≡ old.lock) × (pass ≡ old) × RefusesAnew drive w Are (failed_cell old.seen) (world_left old.origin old.seen) spare left cause
+IsNotRotated drive w Are old spare (back.Unsure disk left) =
+    ClosesStore drive w (λ start. ⊤) old disk × IsUnsure drive w Are (failed_cell old.seen) (world_left old.origin old.seen) spare left
+IsNotRotated drive w Are old spare (back.Uncleared book left) = IsRotatedAlone drive w Are (λ count. FailsToClear) old spare book left
+IsNotRotated drive w Are old spare (back.Memory book left) = IsRotatedAlone drive w Are Clears old spare book left
 
 -- A fresh log was begun on this drive. `seen` is what its opening finds, and `start` is the drive at that moment.
 pub record BeginsFresh {D : Type 0} (drive : D → Drive) (w : ℕ) (spare : D) (seen : Seen) (start : D) (log : LogView D) : Type 0 where
@@ -173,17 +176,22 @@ pub record BeginsFresh {D : Type 0} (drive : D → Drive) (w : ℕ) (spare : D) 
   pub compacted : IsCompacted w (fresh_cells w seen.world seen.leaves) (drive spare) (drive start)
   pub on_way : KeepsOnWay w (fresh_cells w seen.world seen.leaves) (drive spare) (drive start)
 
--- The fresh log is that of the objects and leaves of a book.
-pub record BeginsAsIs {D : Type 0} (drive : D → Drive) (w : ℕ) (b : BookView D) (spare : D) (seen : Seen) (start : D) (log : LogView D) : Type 0 where
-  pub good : failed_cell b.entries ≡ None
-  pub content : HasContent w b seen
+-- The fresh log is that of the objects that the history of a pass left, with such leaves. No append has failed.
+pub record BeginsOf {D : Type 0} (drive : D → Drive) (w : ℕ) (Are : List (List Bool) → Type 0) (pass : Known) (spare : D) (seen : Seen) (start : D) (log : LogView D) : Type 0 where
+  pub good : failed_cell pass.seen ≡ None
+  pub world : seen.world ≡ world_left pass.origin pass.seen
+  pub leaves_are : Are seen.leaves
   pub begins : BeginsFresh drive w spare seen start log
 
--- The fresh log is that of the objects of a book, with new leaves.
-pub record BeginsAnew {D : Type 0} (drive : D → Drive) (w : ℕ) (b : BookView D) (spare : D) (leaves : List Leaf) (seen : Seen) (start : D) (log : LogView D) : Type 0 where
-  pub good : failed_cell b.entries ≡ None
-  pub content : HasContentAnew w b leaves seen
-  pub begins : BeginsFresh drive w spare seen start log
+-- The leaves are those that the history left.
+abbrev pub BeginsLeft : {D : Type 0} → (D → Drive) → ℕ → Known → D → Seen → D → LogView D → Type 0
+BeginsLeft drive w pass spare seen start log = BeginsOf drive w (AreLeft w pass.origin pass.seen) pass spare seen start log
+
+-- The leaves are new ones, which the bucket size requires.
+pub record BeginsAnew {D : Type 0} (drive : D → Drive) (w : ℕ) (pass : Known) (spare : D) (leaves : List Leaf) (seen : Seen) (start : D) (log : LogView D) : Type 0 where
+  pub names : seen.leaves ≡ names_of leaves
+  pub stands : StandsBySize w pass.origin.bucket (world_left pass.origin pass.seen) leaves
+  pub begins : BeginsOf drive w (AreAnew w pass.origin pass.seen) pass spare seen start log
 
 -- The result of clearing the log of a book.
 pub record LeavesOf {D : Type 0} (drive : D → Drive) (Came : ℕ → Drive → Drive → Type 0) (b : BookView D) (left : D) : Type 0 where
@@ -193,25 +201,23 @@ pub record LeavesOf {D : Type 0} (drive : D → Drive) (Came : ℕ → Drive →
 
 -- A store continues from a book over another log, and the old log was cleared. `seen` was found in the other log, and
 -- `start` is its drive at that moment.
-pub record GoesOn {D : Type 0} (drive : D → Drive) (b : BookView D) (seen : Seen) (start : D) (entries : List Entry) (lock : TableId) (pass : Known) (left : D) : Type 0 where
-  pub entries_are : entries ≡ b.entries
-  pub pass_is : pass ≡ first_pass lock (found_origin b.bucket seen (drive start))
+pub record GoesOn {D : Type 0} (drive : D → Drive) (b : BookView D) (seen : Seen) (start : D) (lock : TableId) (pass : Known) (left : D) : Type 0 where
+  pub pass_is : pass ≡ first_pass lock (found_origin b.kept b.bucket seen (drive start))
   pub leaves : LeavesOf drive Clears b left
 
 -- A book alone continues in the same way.
-pub record GoesAlone {D : Type 0} (drive : D → Drive) (Came : ℕ → Drive → Drive → Type 0) (b : BookView D) (seen : Seen) (start : D) (entries : List Entry) (new : BookView D) (left : D) : Type 0 where
-  pub entries_are : entries ≡ b.entries
-  pub origin_is : origin_of drive new ≡ found_origin b.bucket seen (drive start)
+pub record GoesAlone {D : Type 0} (drive : D → Drive) (Came : ℕ → Drive → Drive → Type 0) (b : BookView D) (seen : Seen) (start : D) (new : BookView D) (left : D) : Type 0 where
+  pub origin_is : origin_of drive new ≡ found_origin b.kept b.bucket seen (drive start)
   pub none : new.entries ≡ []
   pub has : HasWorld new
   pub logged : is_some new.log ≡ true
   pub leaves : LeavesOf drive Came b left
 
 abbrev pub GoesNot : {I D P : Type 0} → (D → Drive) → BookView D → Seen → D → NotRotated I D P → Type 0
-GoesNot drive b seen start (back.Kept book left cause) = ⊥
-GoesNot drive b seen start (back.Unsure book left) = ⊥
-GoesNot drive b seen start (back.Uncleared book entries left) = GoesAlone drive (λ count. FailsToClear) b seen start entries book left
-GoesNot drive b seen start (back.Memory book entries left) = GoesAlone drive Clears b seen start entries book left
+GoesNot drive b seen start (back.Kept store pass left cause) = ⊥
+GoesNot drive b seen start (back.Unsure disk left) = ⊥
+GoesNot drive b seen start (back.Uncleared book left) = GoesAlone drive (λ count. FailsToClear) b seen start book left
+GoesNot drive b seen start (back.Memory book left) = GoesAlone drive Clears b seen start book left
 
 -- The result of clearing a log that was returned.
 pub record LeavesView {D : Type 0} (drive : D → Drive) (Came : ℕ → Drive → Drive → Type 0) (log : Option (LogView D)) (left : D) : Type 0 where
@@ -220,20 +226,18 @@ pub record LeavesView {D : Type 0} (drive : D → Drive) (Came : ℕ → Drive �
   pub came : Came view.cells (drive view.disk) (drive left)
   pub keeps : KeepsOrClears (drive view.disk) (drive left)
 
--- A store was created from a book, after the old log was cleared. The history is returned with it.
-pub record Finishes {D : Type 0} (drive : D → Drive) (b : BookView D) (h : List Entry) (log : Option (LogView D)) (entries : List Entry) (lock : TableId) (pass : Known) (left : D) : Type 0 where
-  pub entries_are : entries ≡ h
+-- A store was created from a book, after the old log was cleared.
+pub record Finishes {D : Type 0} (drive : D → Drive) (b : BookView D) (log : Option (LogView D)) (lock : TableId) (pass : Known) (left : D) : Type 0 where
   pub pass_is : pass ≡ first_pass lock (origin_of drive b)
   pub leaves : LeavesView drive Clears log left
 
 -- No store was created, and the book is returned.
-pub record FinishesAlone {D : Type 0} (drive : D → Drive) (Came : ℕ → Drive → Drive → Type 0) (b : BookView D) (h : List Entry) (log : Option (LogView D)) (entries : List Entry) (new : BookView D) (left : D) : Type 0 where
-  pub entries_are : entries ≡ h
+pub record FinishesAlone {D : Type 0} (drive : D → Drive) (Came : ℕ → Drive → Drive → Type 0) (b : BookView D) (log : Option (LogView D)) (new : BookView D) (left : D) : Type 0 where
   pub book_is : new ≡ b
   pub leaves : LeavesView drive Came log left
 
-abbrev pub FinishesNot : {I D P : Type 0} → (D → Drive) → BookView D → List Entry → Option (LogView D) → NotRotated I D P → Type 0
-FinishesNot drive b h log (back.Kept book left cause) = ⊥
-FinishesNot drive b h log (back.Unsure book left) = ⊥
-FinishesNot drive b h log (back.Uncleared book entries left) = FinishesAlone drive (λ count. FailsToClear) b h log entries book left
-FinishesNot drive b h log (back.Memory book entries left) = FinishesAlone drive Clears b h log entries book left
+abbrev pub FinishesNot : {I D P : Type 0} → (D → Drive) → BookView D → Option (LogView D) → NotRotated I D P → Type 0
+FinishesNot drive b log (back.Kept store pass left cause) = ⊥
+FinishesNot drive b log (back.Unsure disk left) = ⊥
+FinishesNot drive b log (back.Uncleared book left) = FinishesAlone drive (λ count. FailsToClear) b log book left
+FinishesNot drive b log (back.Memory book left) = FinishesAlone drive Clears b log book left

@@ -9,14 +9,11 @@ use book_lock::Pass;
 use commit_book::{Book, BookParts};
 use disk_trait::LogDisk;
 use index_layer::Index;
-use plain_list::Entries;
 use sessions::{SharedBook, Start, Store};
 
 /// What is left of a store over a file after its close.
 #[derive(Drop)]
 pub struct ClosedStore<D: Drop> {
-    /// The history since the opening, or since the last renewal or rotation.
-    pub entries: Entries,
     /// The record whose append failed, if one failed, counted from 0. The log may have this record. It takes no more
     /// records until it is opened again.
     pub lost: Option<u64>,
@@ -32,8 +29,8 @@ pub fn close_store<I: Index, D: LogDisk>(
     requires lock { pass.lock ≡ store }
     requires off { pass.holds ≡ false }
     requires parts { pass.parts ≡ all_parts }
-    ensures closes { ClosesStore D.drive I.WIDTH (λ start. ⊤) pass result.entries result.disk }
-    ensures lost { result.lost ≡ failed_cell result.entries }
+    ensures closes { ClosesStore D.drive I.WIDTH (λ start. ⊤) pass result.disk }
+    ensures lost { result.lost ≡ failed_cell pass.seen }
 {
     close_over::<I, D, OverFile>(store, pass)
 }
@@ -48,8 +45,8 @@ pub fn close_over<I: Index, D: LogDisk, O: Start>(
     requires lock { pass.lock ≡ store }
     requires off { pass.holds ≡ false }
     requires parts { pass.parts ≡ all_parts }
-    ensures closes { ClosesStore D.drive I.WIDTH O.is pass result.entries result.disk }
-    ensures lost { result.lost ≡ failed_cell result.entries }
+    ensures closes { ClosesStore D.drive I.WIDTH O.is pass result.disk }
+    ensures lost { result.lost ≡ failed_cell pass.seen }
 {
     let book = store.close(pass);
     let lost = book.closed();
@@ -59,17 +56,15 @@ pub fn close_over<I: Index, D: LogDisk, O: Start>(
 /// What is left of a book that has a log.
 pub(crate) fn parts_of<I: Index, D: LogDisk>(book: Book<I, D>, lost: Option<u64>) -> ClosedStore<D>
     requires { is_some book.log ≡ true }
-    ensures entries { result.entries ≡ book.entries }
     ensures lost { result.lost ≡ lost }
     ensures disk { disk_in book.log ≡ Some result.disk }
 {
     let BookParts {
         index: _,
         disk,
-        entries,
+        entries: _,
     } = book.into_parts();
     ClosedStore {
-        entries,
         lost,
         disk: disk.unwrap(),
     }

@@ -1,15 +1,15 @@
-//! Opens and closes a store over a log in a file, and continues it with an empty history or over a second file.
+//! Opens and closes a store over a log in a file, and continues it over a second file.
 //!
 //! Contracts see what an opening finds as the origin of the store. It is what the cells of the log leave.
 //! - `open_store` creates the log if the file has at most 17 bytes, and opens it. It also returns the latest moment,
 //!   and how many objects and records it found (`OpensStore`). If it refuses, it returns the drive and the cause. A
 //!   crash then leaves what was in the file (`NotOpens`).
-//! - `close_store` returns the drive, and the history that the last pass has seen. If no append failed, the log has the
-//!   cells that the opening found, and then those of the history (`ClosesStore`). So the next opening begins with what
-//!   the last close left (`finds-closed`, proofs/Again).
-//! - `renew_store` continues over the same log with an empty history.
+//! - `close_store` returns the drive. If no append failed, the log has the cells that the opening found, and then those of
+//!   the history that the last pass has seen (`ClosesStore`). So the next opening begins with what the last close left
+//!   (`finds-closed`, proofs/Again).
 //! - `rotate_store` continues over a second file. It writes the objects and the leaves there as a fresh log, and only
-//!   then empties the first log (`IsRotated`).
+//!   then ends the store and empties the first log (`IsRotated`). If nothing was written, it returns the store
+//!   (`NotRotated::Kept`).
 //! - `rotate_anew` does the same with the leaves that the bucket size requires for the objects (`FitsSize`). No other
 //!   leaves that need no split are fewer (`fewest`, proofs/Fewest).
 //! - `open_either` opens both files, and continues over the one that has records (`OpensEither`). If a crash during a
@@ -25,14 +25,13 @@ mod faults;
 mod files;
 mod objects;
 mod opening;
-mod renewing;
 mod rotating;
 mod start;
 
 pub use closing::{ClosedStore, close_over, close_store};
 pub use either::{OpenedEither, Which, open_either};
 pub use faults::{EitherCause, NotEither, NotOpened, OpenCause};
+pub use objects::latest_of;
 pub use opening::{LEAST_BUCKET, MOST_BUCKET, OpenedStore, open_over, open_store};
-pub use renewing::{renew_book, renew_store};
 pub use rotating::{NotRotated, RotateCause, Rotated, rotate_anew, rotate_store};
 pub use start::OverFile;

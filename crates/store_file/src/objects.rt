@@ -5,7 +5,7 @@ ghost use Rattle.store_file.specs.Objects.{IsLatest, later};
 use plain_list::Member;
 
 /// The latest moment of these objects, if there are any.
-pub(crate) fn latest_of(members: &[Member]) -> Option<u64>
+pub fn latest_of(members: &[Member]) -> Option<u64>
     ensures { IsLatest members.now result }
 {
     let mut latest = None;

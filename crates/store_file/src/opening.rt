@@ -123,7 +123,7 @@ pub(crate) fn store_of<I: Index, D: LogDisk, O: Start>(
         Ok(book) => book,
         Err(back) => return Err(out_of_memory(back.log.give_back())),
     };
-    match shared(alloc, book) {
+    match shared(alloc, book.without_list()) {
         Ok((store, pass)) => Ok(OpenedStore {
             store,
             pass,

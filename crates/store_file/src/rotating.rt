@@ -1,24 +1,24 @@
 //! Continues a store over a second file.
 ghost use Rattle.std.specs.Prelude.{◌≡◌, [], false, true, Some, None, is_some, IfOk, IfErr};
-ghost use Rattle.plain_list.specs.History.{world_after, failed_cell};
+ghost use Rattle.plain_list.specs.History.{failed_cell};
 ghost use Rattle.plain_list.specs.State.{ComesBySplits};
 ghost use Rattle.plain_list.specs.World.{IsWorld};
 ghost use Rattle.split_log.specs.LogView.{LogView};
-ghost use Rattle.commit_book.specs.IsBook.{IsBook};
 ghost use Rattle.sessions.specs.Steps.{all_parts};
-ghost use Rattle.store_file.specs.Rotated.{AreLeft, AreAnew, AreOfBook, AreOfSize, BeginsAnew, BeginsAsIs, BeginsFresh};
-ghost use Rattle.store_file.specs.Rotated.{Finishes, FinishesNot, IsRotated, IsNotRotated, NotBegins, ComesBack, begin_cause};
+ghost use Rattle.store_file.specs.Rotated.{world_left, AreLeft, AreAnew, BeginsAnew, BeginsFresh, BeginsLeft, IsClosedBook};
+ghost use Rattle.store_file.specs.Rotated.{Finishes, FinishesNot, IsRotated, IsNotRotated, NotBegins, ComesBack, begin_cause, content_cause};
 
+use crate::closing::{ClosedStore, close_store};
 use crate::start::OverFile;
 use book_lock::Pass;
-use commit_book::{Anew, Book, Content, Replaced};
+use commit_book::{Anew, Book, BookFault, Content, Replaced};
 use disk_trait::LogDisk;
 use index_layer::Index;
 use log_compact::{CompactFault, CompactRefused, NotCleared, begin_log, clear_log, fresh_seen};
-use plain_list::Entries;
 use recovery::Opened;
 use sessions::{SharedBook, Store};
 use std::alloc::Global;
+use std::sync::Wait;
 use thiserror::Error;
 
 /// A store that continues over a second file.
@@ -26,8 +26,6 @@ pub struct Rotated<I: Index, D: LogDisk> {
     pub store: Store<I, D, OverFile>,
     /// The pass that has all its parts.
     pub pass: Pass<SharedBook<I, D, OverFile>>,
-    /// The history of the store that ended.
-    pub entries: Entries,
     /// The drive of the first file. Its log is empty, so it is ready for the next rotation.
     pub spare: D,
 }
@@ -49,22 +47,22 @@ pub enum RotateCause {
     Memory,
 }
 
-/// Why there is no store, and its book. The store has ended.
-#[derive(Drop)]
+/// What is left of a store that doesn't continue over a second file.
 pub enum NotRotated<I: Index, D: LogDisk> {
-    /// The unchanged book, and the drive of the second file, to which nothing was written. If the cause is `Closed`,
-    /// open both files with `open_either`. Otherwise `renew_book` continues with the book over its own file, and that
-    /// store can be rotated later.
+    /// The same store and its pass, and the drive of the second file, to which nothing was written. The store goes on
+    /// over its own file, and can be rotated later. If the cause is `Closed`, the store takes no more calls, as before:
+    /// close it, and open both files with `open_either`.
     Kept {
-        book: Book<I, D>,
+        store: Store<I, D, OverFile>,
+        pass: Pass<SharedBook<I, D, OverFile>>,
         spare: D,
         cause: RotateCause,
     },
-    /// The unchanged book, and the second drive, which failed. The second file may have all objects or none, also after
-    /// a crash. Append nothing to the first log while the second has records. Otherwise the two logs differ, and an
-    /// opening of both files refuses them. Drop the book, and open both files with `open_either`.
+    /// Both drives. The second one failed, and the store has ended. The second file may have all objects or none, also
+    /// after a crash. Append nothing to the first log while the second has records. Otherwise the two logs differ, and an
+    /// opening of both files refuses them. So drop both drives, and open both files with `open_either`.
     Unsure {
-        book: Book<I, D>,
+        disk: D,
         spare: D,
     },
     /// The book continues over the second file, but the first drive failed while its log was emptied. Append nothing to
@@ -72,14 +70,12 @@ pub enum NotRotated<I: Index, D: LogDisk> {
     /// them. Drop the book, and open both files with `open_either`.
     Uncleared {
         book: Book<I, D>,
-        entries: Entries,
         old: D,
     },
     /// Memory ran out for the new lock. The book continues over the second file, and the first file has an empty log.
     /// `Store::new` begins a store with this book.
     Memory {
         book: Book<I, D>,
-        entries: Entries,
         spare: D,
     },
 }
@@ -104,11 +100,12 @@ struct NotBegun<D: LogDisk> {
     cause: BeginCause,
 }
 
-/// Ends a store over a file, and begins one with an empty history over a second file, which has at most 17 bytes. The
-/// second file is the one that is attached to `spare`. The objects and the leaves are written and synced there as a
-/// fresh log. Only then is the first log emptied, which makes it ready for the next rotation. Nothing is appended to
-/// the second log before that.
-pub fn rotate_store<I: Index, D: LogDisk>(
+/// Continues a store over a second file, with an empty history. The second file is the one that is attached to `spare`,
+/// and has at most 17 bytes. The objects and the leaves are written and synced there as a fresh log. Only then does the
+/// first store end, and the first log is emptied, which makes it ready for the next rotation. Nothing is appended to the
+/// second log before that.
+pub fn rotate_store<I: Index, D: LogDisk, R: Wait>(
+    rt: &R,
     alloc: Global,
     store: Store<I, D, OverFile>,
     pass: Pass<SharedBook<I, D, OverFile>>,
@@ -117,21 +114,22 @@ pub fn rotate_store<I: Index, D: LogDisk>(
     requires lock { pass.lock ≡ store }
     requires off { pass.holds ≡ false }
     requires parts { pass.parts ≡ all_parts }
-    ensures rotated { IfOk result (λ r. IsRotated D.drive I.WIDTH (AreLeft I.WIDTH pass.origin pass.seen) pass r.entries spare
+    ensures rotated { IfOk result (λ r. IsRotated D.drive I.WIDTH (AreLeft I.WIDTH pass.origin pass.seen) pass spare
         r.store r.pass r.spare) }
     ensures refused { IfErr result (λ e. IsNotRotated D.drive I.WIDTH (AreLeft I.WIDTH pass.origin pass.seen) pass spare e) }
 {
-    let book = store.close(pass);
-    match begin_as_is(&book, spare) {
-        Ok(opened) => finish(alloc, book.rotate(alloc, opened)),
-        Err(NotBegun { disk, cause }) => Err(not_rotated(book, disk, cause)),
+    let mut pass = pass;
+    match begin_as_is(rt, &store, &mut pass, spare) {
+        Ok(opened) => finish(alloc, book_of(store, pass).rotate(alloc, opened)),
+        Err(NotBegun { disk, cause }) => Err(not_rotated(store, pass, disk, cause)),
     }
 }
 
 /// The same with new leaves, which are those that the bucket size requires for the objects. So leaves that have become
 /// empty don't pile up. The call builds a second index while the first one still exists. It takes longer than
 /// `rotate_store`, and needs memory for that index.
-pub fn rotate_anew<I: Index, D: LogDisk>(
+pub fn rotate_anew<I: Index, D: LogDisk, R: Wait>(
+    rt: &R,
     alloc: Global,
     store: Store<I, D, OverFile>,
     pass: Pass<SharedBook<I, D, OverFile>>,
@@ -140,54 +138,64 @@ pub fn rotate_anew<I: Index, D: LogDisk>(
     requires lock { pass.lock ≡ store }
     requires off { pass.holds ≡ false }
     requires parts { pass.parts ≡ all_parts }
-    ensures rotated { IfOk result (λ r. IsRotated D.drive I.WIDTH (AreAnew I.WIDTH pass.origin pass.seen) pass r.entries spare
+    ensures rotated { IfOk result (λ r. IsRotated D.drive I.WIDTH (AreAnew I.WIDTH pass.origin pass.seen) pass spare
         r.store r.pass r.spare) }
     ensures refused { IfErr result (λ e. IsNotRotated D.drive I.WIDTH (AreAnew I.WIDTH pass.origin pass.seen) pass spare e) }
 {
-    let book = store.close(pass);
-    match begin_anew(alloc, &book, spare) {
-        Ok(Begun { index, opened }) => finish(alloc, book.rotate_anew(alloc, index, opened)),
-        Err(NotBegun { disk, cause }) => Err(not_rotated(book, disk, cause)),
+    let mut pass = pass;
+    match begin_anew(rt, alloc, &store, &mut pass, spare) {
+        Ok(Begun { index, opened }) => finish(
+            alloc,
+            book_of(store, pass).rotate_anew(alloc, index, opened),
+        ),
+        Err(NotBegun { disk, cause }) => Err(not_rotated(store, pass, disk, cause)),
     }
 }
 
-// Writes the objects and the leaves of a book as a fresh log on this drive.
-fn begin_as_is<I: Index, D: LogDisk>(book: &Book<I, D>, spare: D) -> Result<Opened<D>, NotBegun<D>>
-    ensures begun { IfOk result (λ o. BeginsAsIs D.drive I.WIDTH book.now spare o.seen o.start.value o.log) }
-    ensures refused { IfErr result (λ e. NotBegins D.drive I.WIDTH (AreOfBook I.WIDTH book.now) (failed_cell book.now.entries)
-        (world_after book.now.opening.world book.now.entries) spare e.disk e.cause) }
-    ensures book { IsBook D.drive I.WIDTH book.now }
+// Writes the objects and the leaves of a store as a fresh log on this drive.
+fn begin_as_is<I: Index, D: LogDisk, R: Wait>(
+    rt: &R,
+    store: &Store<I, D, OverFile>,
+    pass: &mut Pass<SharedBook<I, D, OverFile>>,
+    spare: D,
+) -> Result<Opened<D>, NotBegun<D>>
+    requires lock { pass.old.lock ≡ store.now }
+    requires off { pass.old.holds ≡ false }
+    requires parts { pass.old.parts ≡ all_parts }
+    ensures same { pass.new ≡ pass.old }
+    ensures begun { IfOk result (λ o. BeginsLeft D.drive I.WIDTH pass.old spare o.seen o.start.value o.log) }
+    ensures refused { IfErr result (λ e. NotBegins D.drive I.WIDTH (AreLeft I.WIDTH pass.old.origin pass.old.seen)
+        (failed_cell pass.old.seen) (world_left pass.old.origin pass.old.seen) spare e.disk e.cause) }
 {
-    if let Some(cell) = book.closed() {
-        return Err(refused(spare, RotateCause::Closed { cell }));
-    }
-    match book.content() {
+    match store.content(rt, pass) {
         Ok(content) => begin_with::<I, D>(content, spare),
-        Err(_) => Err(refused(spare, RotateCause::Memory)),
+        Err(fault) => Err(refused(spare, content_cause(&fault))),
     }
 }
 
 // Creates new leaves, and writes them and the objects as a fresh log on this drive.
-fn begin_anew<I: Index, D: LogDisk>(
+fn begin_anew<I: Index, D: LogDisk, R: Wait>(
+    rt: &R,
     alloc: Global,
-    book: &Book<I, D>,
+    store: &Store<I, D, OverFile>,
+    pass: &mut Pass<SharedBook<I, D, OverFile>>,
     spare: D,
 ) -> Result<Begun<I, D>, NotBegun<D>>
-    ensures begun { IfOk result (λ b. BeginsAnew D.drive I.WIDTH book.now spare (I.leaves b.index)
+    requires lock { pass.old.lock ≡ store.now }
+    requires off { pass.old.holds ≡ false }
+    requires parts { pass.old.parts ≡ all_parts }
+    ensures same { pass.new ≡ pass.old }
+    ensures begun { IfOk result (λ b. BeginsAnew D.drive I.WIDTH pass.old spare (I.leaves b.index)
         b.opened.seen b.opened.start.value b.opened.log) }
-    ensures refused { IfErr result (λ e. NotBegins D.drive I.WIDTH (AreOfSize I.WIDTH book.now) (failed_cell book.now.entries)
-        (world_after book.now.opening.world book.now.entries) spare e.disk e.cause) }
-    ensures book { IsBook D.drive I.WIDTH book.now }
+    ensures refused { IfErr result (λ e. NotBegins D.drive I.WIDTH (AreAnew I.WIDTH pass.old.origin pass.old.seen)
+        (failed_cell pass.old.seen) (world_left pass.old.origin pass.old.seen) spare e.disk e.cause) }
 {
-    if let Some(cell) = book.closed() {
-        return Err(refused(spare, RotateCause::Closed { cell }));
-    }
-    let Ok(Anew { index, content }) = book.anew(alloc) else {
-        return Err(refused(spare, RotateCause::Memory));
-    };
-    match begin_with::<I, D>(content, spare) {
-        Ok(opened) => Ok(Begun { index, opened }),
-        Err(refused) => Err(refused),
+    match store.anew(rt, alloc, pass) {
+        Ok(Anew { index, content }) => match begin_with::<I, D>(content, spare) {
+            Ok(opened) => Ok(Begun { index, opened }),
+            Err(refused) => Err(refused),
+        },
+        Err(fault) => Err(refused(spare, content_cause(&fault))),
     }
 }
 
@@ -222,6 +230,16 @@ fn refused<D: LogDisk>(disk: D, cause: RotateCause) -> NotBegun<D>
     }
 }
 
+// A store that isn't closed has content, unless memory runs out.
+fn content_cause(fault: &BookFault) -> RotateCause
+    ensures { result ≡ content_cause fault.now }
+{
+    match fault {
+        BookFault::Closed { cell } => RotateCause::Closed { cell: *cell },
+        _ => RotateCause::Memory,
+    }
+}
+
 // A file of more than 17 bytes was left unchanged. A drive that failed may have written some of the log or all of it.
 fn begin_cause(fault: CompactFault) -> BeginCause
     ensures { result ≡ begin_cause fault }
@@ -234,18 +252,46 @@ fn begin_cause(fault: CompactFault) -> BeginCause
     }
 }
 
-// Returns the book, for which no log was begun.
+// Returns the store, if nothing was written to the second file. Otherwise ends it.
 fn not_rotated<I: Index, D: LogDisk>(
-    book: Book<I, D>,
+    store: Store<I, D, OverFile>,
+    pass: Pass<SharedBook<I, D, OverFile>>,
     spare: D,
     cause: BeginCause,
 ) -> NotRotated<I, D>
-    ensures { ComesBack book spare cause result }
+    requires lock { pass.lock ≡ store }
+    requires off { pass.holds ≡ false }
+    requires parts { pass.parts ≡ all_parts }
+    ensures { ComesBack D.drive I.WIDTH pass spare cause result }
 {
     match cause {
-        BeginCause::Refused { cause } => NotRotated::Kept { book, spare, cause },
-        BeginCause::Unsure => NotRotated::Unsure { book, spare },
+        BeginCause::Refused { cause } => NotRotated::Kept {
+            store,
+            pass,
+            spare,
+            cause,
+        },
+        BeginCause::Unsure => {
+            let ClosedStore { lost: _, disk } = close_store(store, pass);
+            NotRotated::Unsure { disk, spare }
+        }
     }
+}
+
+// Ends a store, and returns its book.
+fn book_of<I: Index, D: LogDisk>(
+    store: Store<I, D, OverFile>,
+    pass: Pass<SharedBook<I, D, OverFile>>,
+) -> Book<I, D>
+    requires lock { pass.lock ≡ store }
+    requires off { pass.holds ≡ false }
+    requires parts { pass.parts ≡ all_parts }
+    ensures { IsClosedBook D.drive I.WIDTH pass result }
+{
+    let book = store.close(pass);
+    // Calling `closed` makes the invariant of a book known.
+    let _lost = book.closed();
+    book
 }
 
 // Empties the first log, and creates a store of the book that continues over the second log.
@@ -258,30 +304,17 @@ fn finish<I: Index, D: LogDisk>(
     requires logged { is_some replaced.book.log ≡ true }
     requires log { is_some replaced.log ≡ true }
     requires good { (log : LogView D) → replaced.log ≡ Some log → log.failed ≡ None }
-    ensures finished { IfOk result (λ r. Finishes D.drive replaced.book replaced.entries replaced.log r.entries r.store r.pass r.spare) }
-    ensures refused { IfErr result (λ e. FinishesNot D.drive replaced.book replaced.entries replaced.log e) }
+    ensures finished { IfOk result (λ r. Finishes D.drive replaced.book replaced.log r.store r.pass r.spare) }
+    ensures refused { IfErr result (λ e. FinishesNot D.drive replaced.book replaced.log e) }
 {
-    let Replaced { book, entries, log } = replaced;
+    let Replaced { book, log } = replaced;
     let log = log.unwrap();
     let cleared = clear_log(log);
     match cleared {
         Ok(spare) => match Store::new(alloc, book) {
-            Ok((store, pass)) => Ok(Rotated {
-                store,
-                pass,
-                entries,
-                spare,
-            }),
-            Err(book) => Err(NotRotated::Memory {
-                book,
-                entries,
-                spare,
-            }),
+            Ok((store, pass)) => Ok(Rotated { store, pass, spare }),
+            Err(book) => Err(NotRotated::Memory { book, spare }),
         },
-        Err(NotCleared { disk }) => Err(NotRotated::Uncleared {
-            book,
-            entries,
-            old: disk,
-        }),
+        Err(NotCleared { disk }) => Err(NotRotated::Uncleared { book, old: disk }),
     }
 }
