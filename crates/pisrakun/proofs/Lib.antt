@@ -1,2 +1,1 @@
-mod LatestMoments
 pub mod Exact

@@ -1,6 +1,7 @@
 pub mod Fresh
 pub mod Memory
 pub mod Now
+pub mod Rotated
 pub mod Sessions
 pub mod Status
 pub mod Team

@@ -3,7 +3,7 @@ use Rattle.std.specs.Prelude.{◌≡◌, ℕ, min, length, Option}
 use Rattle.std.specs.Option.{option_map}
 use Rattle.split_log.specs.LogView.{most_cells}
 use Rattle.book_lock.specs.Pass.{Known}
-use Rattle.sessions.specs.Renewals.{cells_where_at, room_at}
+use Rattle.sessions.specs.Rooms.{cells_where_at, room_at}
 use Rattle.store_client.specs.Caller.{world_seen}
 use Rattle.store_file.specs.Objects.{IsLatest}
 use Rattle.pisrakun.specs.declared.looks.Status.{Status}

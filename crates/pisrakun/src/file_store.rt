@@ -1,33 +1,30 @@
 //! A store over a file as one value, or over two files alternately.
-ghost use Rattle.std.specs.Prelude.{◌≡◌, ◌≢◌, ◌⊎◌, ℕ, length, true, false, IfOk, IfErr, is_some, ⊤};
+ghost use Rattle.std.specs.Prelude.{◌≡◌, ◌≢◌, ◌⊎◌, [], true, false, IfOk, IfErr, is_some, ⊤};
 ghost use Rattle.std.specs.Result.{IsErrAnd};
 ghost use Rattle.recovery.specs.declared.seen.OpenFault.{OpenFault};
-ghost use Rattle.kept_log.specs.Journal.{failed_cell};
-ghost use Rattle.book_lock.specs.Own.{times, once_below};
-ghost use Rattle.book_lock.specs.Pass.{Known};
-ghost use Rattle.commit_book.specs.Renewal.{renewed, renew_refusal};
-ghost use Rattle.sessions.specs.Renewals.{IsBack, IsRenewed, refusal_of, store_refusal};
+ghost use Rattle.plain_list.specs.History.{failed_cell};
 ghost use Rattle.sessions.specs.Shared.{HasWorld, origin_of};
 ghost use Rattle.store_file.specs.Closed.{ClosesStore};
 ghost use Rattle.store_file.specs.Either.{OpensEither, RefusesEither, IsFreeEither};
 ghost use Rattle.store_file.specs.Files.{CanOpen, ShowsFault};
 ghost use Rattle.store_file.specs.Opened.{OpensStore, IsFirst, first_pass};
 ghost use Rattle.store_file.specs.Refused.{RefusesStore, IsFreeCause, is_bucket};
-ghost use Rattle.store_file.specs.Renewed.{HasLogBack, GoesBack};
-ghost use Rattle.store_file.specs.Rotated.{AreLeft, AreAnew, IsBookKept, IsRotated, IsNotRotated};
+ghost use Rattle.store_file.specs.Rotated.{AreLeft, AreAnew, IsRotated};
 ghost use Rattle.pisrakun.specs.Fresh.{IsNewIn, new_in};
+ghost use Rattle.pisrakun.specs.Rotated.{IsAsOne, IsFirstIfKept, KeepsOrEnds};
 
+use crate::label::Label;
 use crate::object_store::ObjectStore;
 use commit_book::Book;
 use disk_trait::LogDisk;
 use index_layer::Index;
-use plain_list::Entries;
-use sessions::{NotRenewed, Renewed};
+use sessions::Store;
 use std::alloc::Global;
+use std::sync::Wait;
 use store_file::{
     ClosedStore, EitherCause, NotEither, NotOpened, NotRotated, OpenCause, OpenedEither,
-    OpenedStore, OverFile, Rotated, Which, close_store, open_either, open_store, renew_book,
-    renew_store, rotate_anew, rotate_store,
+    OpenedStore, OverFile, RotateCause, Rotated, Which, close_store, open_either, open_store,
+    rotate_anew, rotate_store,
 };
 
 /// A store whose changes are in a log in a file. Each change is written and synced before its call returns.
@@ -59,8 +56,36 @@ pub struct RotatedStore<I: Index, D: LogDisk> {
     pub store: ObjectStore<I, D, OverFile>,
     /// The drive of the first file, which has an empty log: the next rotation takes it.
     pub spare: D,
-    /// The history of the store before.
-    pub entries: Entries,
+}
+
+/// What is left of a store that doesn't continue over a second file.
+pub enum NotRotatedStore<I: Index, D: LogDisk> {
+    /// The same store, which goes on over its own file, and the drive of the second file, to which nothing was written.
+    /// You may rotate it later. If the cause is `Closed`, it takes no more calls, as before: close it, drop both drives,
+    /// and open both files with `open_pair`.
+    Kept {
+        store: ObjectStore<I, D, OverFile>,
+        spare: D,
+        cause: RotateCause,
+    },
+    /// The second drive failed, and the store has ended. The second file may have all objects or none. Append nothing to
+    /// either file: drop both drives, and open both files with `open_pair`.
+    Unsure {
+        disk: D,
+        spare: D,
+    },
+    /// The book continues over the second file, but the first drive failed while its log was emptied. Append nothing to
+    /// either file: drop the book and the drive, and open both files with `open_pair`.
+    Uncleared {
+        book: Book<I, D>,
+        old: D,
+    },
+    /// Memory ran out for the new lock. The book continues over the second file, and the first file has an empty log.
+    /// `FileStore::resume` begins a store with this book.
+    Memory {
+        book: Book<I, D>,
+        spare: D,
+    },
 }
 
 impl<I: Index, D: LogDisk> ObjectStore<I, D, OverFile> {
@@ -128,88 +153,72 @@ impl<I: Index, D: LogDisk> ObjectStore<I, D, OverFile> {
         }
     }
 
-    /// Continues with the book that a refused rotation left over its own file (`NotRotated::Kept`), with an empty history,
-    /// as `renew` does. The second value is the history so far.
+    /// Begins a store with the book that a rotation left if memory ran out at its end (`NotRotatedStore::Memory`). If it
+    /// runs out again, the book comes back.
     pub fn resume(
         alloc: Global,
         book: Book<I, D>,
-    ) -> Result<(ObjectStore<I, D, OverFile>, Entries), NotRenewed<I, D>>
+    ) -> Result<ObjectStore<I, D, OverFile>, Book<I, D>>
+        requires none { book.entries ≡ [] }
         requires world { HasWorld book }
         requires logged { is_some book.log ≡ true }
-        ensures renewed { IfOk result (λ r. (old : Known) → IsBookKept D.drive old book
-            → IsRenewed I.WIDTH old r.1 r.0.pass.lock r.0.pass) }
-        ensures begins { IfOk result (λ r. (r.1 ≡ book.entries)
-            × (r.0 ≡ new_in 0 (first_pass r.0.pass.lock (origin_of D.drive (renewed I.WIDTH book))))) }
-        ensures refused { refusal_of result ≡ renew_refusal I.WIDTH book }
-        ensures back { IfErr result (λ e. GoesBack I.WIDTH book e) }
-        ensures logged { IfErr result (λ e. HasLogBack e) }
+        ensures store { IfOk result (λ store. store ≡ new_in 0 (first_pass store.pass.lock (origin_of D.drive book))) }
+        ensures back { IfErr result (λ back. back ≡ book) }
     {
-        match renew_book(alloc, book) {
-            Ok(renewed) => Ok(renewed_store(alloc, 0, renewed)),
-            Err(refused) => Err(refused),
-        }
+        let (store, pass) = Store::new(alloc, book)?;
+        Ok(ObjectStore::from_parts(alloc, store, pass))
     }
 
-    /// Ends the store. The value that is left has the history since the opening, and the drive, which still locks the
-    /// file: drop it before you open the file again.
+    /// Ends the store. The value that is left has the drive, which still locks the file: drop it before you open the file
+    /// again.
     pub fn close(self) -> ClosedStore<D>
-        ensures closes { ClosesStore D.drive I.WIDTH (λ start. ⊤) self.pass result.entries result.disk }
-        ensures lost { result.lost ≡ failed_cell result.entries }
+        ensures closes { ClosesStore D.drive I.WIDTH (λ start. ⊤) self.pass result.disk }
+        ensures lost { result.lost ≡ failed_cell self.pass.seen }
     {
         let (store, pass) = self.into_parts();
         close_store(store, pass)
     }
 
-    /// Continues over the same log with an empty history. It makes no device call and copies nothing. Places begin at 1
-    /// again, and rows at 0. The second value is the history so far. After a refusal take the drive from the book
-    /// (`into_parts`), drop it, and open the file again.
-    pub fn renew(self) -> Result<(ObjectStore<I, D, OverFile>, Entries), NotRenewed<I, D>>
-        ensures renewed { IfOk result (λ r. IsRenewed I.WIDTH self.pass r.1 r.0.pass.lock r.0.pass) }
-        ensures new { IfOk result (λ r. IsNewIn self.session r.0) }
-        ensures own { (p : ℕ) → times p self.pass.own ≡ once_below p (length self.pass.seen) }
-        ensures refused { refusal_of result ≡ store_refusal I.WIDTH self.pass.origin self.pass.seen }
-        ensures back { IfErr result (λ e. IsBack D.drive I.WIDTH self.pass e) }
-        ensures logged { IfErr result (λ e. HasLogBack e) }
-    {
-        let (alloc, session) = (self.alloc, self.session);
-        let (store, pass) = self.into_parts();
-        match renew_store(alloc, store, pass) {
-            Ok(renewed) => Ok(renewed_store(alloc, session, renewed)),
-            Err(refused) => Err(refused),
-        }
-    }
-
-    /// Continues over a second file, which has at most 17 bytes. The objects and leaves are written there as a fresh
-    /// log, and then the first log is made empty. `NotRotated` says what to do after a refusal.
-    pub fn rotate(self, spare: D) -> Result<RotatedStore<I, D>, NotRotated<I, D>>
+    /// Continues over a second file, with an empty history: places begin at 1 again, and rows at 0. The file has at most
+    /// 17 bytes. The objects and leaves are written there as a fresh log, and then the first log is made empty.
+    /// `NotRotatedStore` says what to do after a refusal. If nothing was written, the same store goes on.
+    pub fn rotate<R: Wait>(
+        self,
+        rt: &R,
+        spare: D,
+    ) -> Result<RotatedStore<I, D>, NotRotatedStore<I, D>>
         ensures rotated { IfOk result (λ r. IsRotated D.drive I.WIDTH (AreLeft I.WIDTH self.pass.origin self.pass.seen) self.pass
-            r.entries spare r.store.pass.lock r.store.pass r.spare) }
+            spare r.store.pass.lock r.store.pass r.spare) }
         ensures new { IfOk result (λ r. IsNewIn self.session r.store) }
-        ensures refused { IfErr result (λ e. IsNotRotated D.drive I.WIDTH (AreLeft I.WIDTH self.pass.origin self.pass.seen)
-            self.pass spare e) }
+        ensures refused { IfErr result (λ e. KeepsOrEnds D.drive I.WIDTH (AreLeft I.WIDTH self.pass.origin self.pass.seen)
+            self spare e) }
     {
-        let (alloc, session) = (self.alloc, self.session);
+        let (alloc, label) = (self.alloc, self.label());
         let (store, pass) = self.into_parts();
-        match rotate_store(alloc, store, pass, spare) {
-            Ok(rotated) => Ok(rotated_store(alloc, session, rotated)),
-            Err(refused) => Err(refused),
+        match rotate_store(rt, alloc, store, pass, spare) {
+            Ok(rotated) => Ok(rotated_store(alloc, label.session, rotated)),
+            Err(refused) => Err(not_rotated(alloc, label, refused)),
         }
     }
 
     /// As `rotate`, with new leaves: those that the bucket size wants for the objects, and no more. So empty leaves
     /// don't add up. It takes longer than `rotate`, and the memory of a second index.
-    pub fn rotate_anew(self, spare: D) -> Result<RotatedStore<I, D>, NotRotated<I, D>>
+    pub fn rotate_anew<R: Wait>(
+        self,
+        rt: &R,
+        spare: D,
+    ) -> Result<RotatedStore<I, D>, NotRotatedStore<I, D>>
         ensures rotated { IfOk result (λ r. IsRotated D.drive I.WIDTH (AreAnew I.WIDTH self.pass.origin self.pass.seen) self.pass
-            r.entries spare r.store.pass.lock r.store.pass r.spare) }
+            spare r.store.pass.lock r.store.pass r.spare) }
         ensures new { IfOk result (λ r. IsNewIn self.session r.store) }
-        ensures refused { IfErr result (λ e. IsNotRotated D.drive I.WIDTH (AreAnew I.WIDTH self.pass.origin self.pass.seen)
-            self.pass spare e) }
+        ensures refused { IfErr result (λ e. KeepsOrEnds D.drive I.WIDTH (AreAnew I.WIDTH self.pass.origin self.pass.seen)
+            self spare e) }
     {
-        let (alloc, session) = (self.alloc, self.session);
+        let (alloc, label) = (self.alloc, self.label());
         let (store, pass) = self.into_parts();
-        match rotate_anew(alloc, store, pass, spare) {
-            Ok(rotated) => Ok(rotated_store(alloc, session, rotated)),
-            Err(refused) => Err(refused),
+        match rotate_anew(rt, alloc, store, pass, spare) {
+            Ok(rotated) => Ok(rotated_store(alloc, label.session, rotated)),
+            Err(refused) => Err(not_rotated(alloc, label, refused)),
         }
     }
 }
@@ -267,26 +276,6 @@ fn opened_pair<I: Index, D: LogDisk>(alloc: Global, opened: OpenedEither<I, D>) 
     }
 }
 
-// One value of a store that was renewed.
-fn renewed_store<I: Index, D: LogDisk>(
-    alloc: Global,
-    session: u8,
-    renewed: Renewed<I, D, OverFile>,
-) -> (ObjectStore<I, D, OverFile>, Entries)
-    requires { IsFirst renewed.store renewed.pass }
-    ensures store { result.0 ≡ new_in session renewed.pass }
-    ensures entries { result.1 ≡ renewed.entries }
-{
-    let Renewed {
-        store,
-        pass,
-        entries,
-    } = renewed;
-    let mut next = ObjectStore::from_parts(alloc, store, pass);
-    next.set_session(session);
-    (next, entries)
-}
-
 // One value of a store that was rotated.
 fn rotated_store<I: Index, D: LogDisk>(
     alloc: Global,
@@ -296,19 +285,39 @@ fn rotated_store<I: Index, D: LogDisk>(
     requires { IsFirst rotated.store rotated.pass }
     ensures store { result.store ≡ new_in session rotated.pass }
     ensures spare { result.spare ≡ rotated.spare }
-    ensures entries { result.entries ≡ rotated.entries }
 {
-    let Rotated {
-        store,
-        pass,
-        entries,
-        spare,
-    } = rotated;
+    let Rotated { store, pass, spare } = rotated;
     let mut next = ObjectStore::from_parts(alloc, store, pass);
     next.set_session(session);
-    RotatedStore {
-        store: next,
-        spare,
-        entries,
+    RotatedStore { store: next, spare }
+}
+
+// The same store as one value, if it goes on, or what is left of it.
+fn not_rotated<I: Index, D: LogDisk>(
+    alloc: Global,
+    label: Label,
+    refused: NotRotated<I, D>,
+) -> NotRotatedStore<I, D>
+    requires { IsFirstIfKept refused }
+    ensures { IsAsOne label refused result }
+{
+    match refused {
+        NotRotated::Kept {
+            store,
+            pass,
+            spare,
+            cause,
+        } => {
+            let mut store = ObjectStore::from_parts(alloc, store, pass);
+            store.relabel(label);
+            NotRotatedStore::Kept {
+                store,
+                spare,
+                cause,
+            }
+        }
+        NotRotated::Unsure { disk, spare } => NotRotatedStore::Unsure { disk, spare },
+        NotRotated::Uncleared { book, old } => NotRotatedStore::Uncleared { book, old },
+        NotRotated::Memory { book, spare } => NotRotatedStore::Memory { book, spare },
     }
 }

@@ -1,20 +1,19 @@
 //! What a store has now. These calls add no entry, and change nothing.
-ghost use Rattle.std.specs.Prelude.{◌≡◌, IfOk, length};
+ghost use Rattle.std.specs.Prelude.{◌≡◌, ℕ, Bool, IfOk, length, Option};
+ghost use Rattle.commit_book.specs.RoomLeft.{room_beside};
 ghost use Rattle.zorder.specs.Region.{IsBox};
 ghost use Rattle.plain_list.specs.Queries.{members_in};
 ghost use Rattle.plain_list.specs.World.{IsWorld};
 ghost use Rattle.sessions.specs.Opens.{places_seen};
-ghost use Rattle.sessions.specs.Renewals.{room_at};
+ghost use Rattle.sessions.specs.Rooms.{room_at};
 ghost use Rattle.sessions.specs.Settles.{Settles};
 ghost use Rattle.sessions.specs.Splits.{SamePass};
 ghost use Rattle.sessions.specs.Views.{IsView};
 ghost use Rattle.store_client.specs.Caller.{is_near_end, world_seen};
 ghost use Rattle.store_file.specs.Objects.{IsLatest};
-ghost use Rattle.pisrakun.specs.Status.{IsStatus};
+ghost use Rattle.pisrakun.specs.Status.{IsStatus, records_of};
 
-use crate::latest::latest_of;
 use crate::object_store::ObjectStore;
-use crate::rooms::{has_no_room, records_of};
 use commit_book::{BookFault, Room};
 use disk_trait::LogDisk;
 use index_layer::Index;
@@ -23,6 +22,8 @@ use io_edge::OpenGate;
 use plain_list::World;
 use sessions::{Settled, Start};
 use std::sync::Wait;
+use store_client::{MOST_CELLS, has_no_room};
+use store_file::latest_of;
 use zorder::{Memory, Region};
 
 /// What a store has, and how much more it takes.
@@ -47,8 +48,8 @@ impl<I: Index, D: LogDisk, O: Start> ObjectStore<I, D, O> {
         self.store.room(rt, &mut self.pass)
     }
 
-    /// Whether leaves are no longer split, since there are so many entries, or records if there is a log. Then it is
-    /// time to renew the store, or to rotate it.
+    /// Whether leaves are no longer split, since the log has so many records. Then it is time to rotate the store. Of a
+    /// store in memory it is false, since its history takes 2^60 entries.
     pub fn is_near_end<R: Wait>(&mut self, rt: &R) -> bool
         ensures same { self.new ≡ self.old }
         ensures near { result ≡ is_near_end self.old.pass }
@@ -120,5 +121,16 @@ impl<I: Index, D: LogDisk, O: Start> ObjectStore<I, D, O> {
         ensures store { self.new ≡ record self.old { pass = self.new.pass } }
     {
         self.store.settle(rt, self.alloc, &mut self.pass, &OpenGate)
+    }
+}
+
+// How many records the log has, if there is one.
+fn records_of(room: &Room) -> Option<u64>
+    requires { (kept : Bool) × ((cells : Option ℕ) × ((events : ℕ) × (room.now ≡ room_beside kept cells events))) }
+    ensures { (kept : Bool) (cells : Option ℕ) (events : ℕ) → room.now ≡ room_beside kept cells events → result ≡ records_of cells }
+{
+    match room.records {
+        Some(records) => Some(MOST_CELLS - records),
+        None => None,
     }
 }

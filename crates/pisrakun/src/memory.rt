@@ -1,7 +1,5 @@
 //! Stores in memory, without a log.
 ghost use Rattle.std.specs.Prelude.{◌≡◌, ◌↔◌, false, Err, IfOk};
-ghost use Rattle.sessions.specs.Renewals.{IsRenewed, refusal_of, store_refusal};
-ghost use Rattle.sessions.specs.Steps.{all_parts};
 ghost use Rattle.store_file.specs.Refused.{is_bucket};
 ghost use Rattle.pisrakun.specs.Memory.{BeginsEmpty};
 
@@ -9,7 +7,7 @@ use crate::no_drive::NoDrive;
 use book_lock::Pass;
 use commit_book::Book;
 use index_layer::Index;
-use sessions::{NotRenewed, Renewed, SharedBook, Store};
+use sessions::{SharedBook, Store};
 use std::alloc::Global;
 use std::marker::Brand;
 use store_file::{LEAST_BUCKET, MOST_BUCKET};
@@ -51,24 +49,8 @@ pub fn in_memory<I: Index>(alloc: Global, bucket: u32) -> Result<InMemory<I>, No
         return Err(NotInMemory::Bucket);
     }
     let book = Book::<I, NoDrive>::fresh(alloc, bucket)?;
-    match Store::<I, NoDrive, Brand>::new(alloc, book) {
+    match Store::<I, NoDrive, Brand>::new(alloc, book.without_list()) {
         Ok((store, pass)) => Ok(InMemory { store, pass }),
         Err(_) => Err(NotInMemory::Memory),
     }
-}
-
-/// Ends a store in memory, and begins one with its objects and an empty history, so that calls may go on. Places begin
-/// at 1 again.
-pub fn renew_memory<I: Index>(
-    alloc: Global,
-    store: Store<I, NoDrive, Brand>,
-    pass: Pass<SharedBook<I, NoDrive, Brand>>,
-) -> Result<Renewed<I, NoDrive, Brand>, NotRenewed<I, NoDrive>>
-    requires lock { pass.lock ≡ store }
-    requires off { pass.holds ≡ false }
-    requires parts { pass.parts ≡ all_parts }
-    ensures renewed { IfOk result (λ r. IsRenewed I.WIDTH pass r.entries r.store r.pass) }
-    ensures refused { refusal_of result ≡ store_refusal I.WIDTH pass.origin pass.seen }
-{
-    store.renew::<Brand>(alloc, pass)
 }

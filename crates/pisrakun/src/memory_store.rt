@@ -1,17 +1,14 @@
 //! A store in memory as one value.
 ghost use Rattle.std.specs.Prelude.{◌≡◌, ◌↔◌, ℕ, length, false, Err, IfOk};
 ghost use Rattle.book_lock.specs.Own.{times, once_below};
-ghost use Rattle.sessions.specs.Renewals.{IsRenewed, refusal_of, store_refusal};
 ghost use Rattle.store_file.specs.Refused.{is_bucket};
-ghost use Rattle.pisrakun.specs.Fresh.{IsFreshIn, IsNewIn};
+ghost use Rattle.pisrakun.specs.Fresh.{IsFreshIn};
 ghost use Rattle.pisrakun.specs.Memory.{empty_origin};
 
-use crate::memory::{InMemory, NotInMemory, in_memory, renew_memory};
+use crate::memory::{InMemory, NotInMemory, in_memory};
 use crate::no_drive::NoDrive;
 use crate::object_store::ObjectStore;
 use index_layer::Index;
-use plain_list::Entries;
-use sessions::{NotRenewed, Renewed};
 use std::alloc::Global;
 use std::marker::Brand;
 
@@ -34,37 +31,11 @@ impl<I: Index> ObjectStore<I, NoDrive, Brand> {
         }
     }
 
-    /// Ends the store, and returns its history.
-    pub fn close(self) -> Entries
-        ensures entries { result ≡ self.pass.seen }
+    /// Ends the store. Views of it stay.
+    pub fn close(self)
         ensures own { (p : ℕ) → times p self.pass.own ≡ once_below p (length self.pass.seen) }
     {
         let (store, pass) = self.into_parts();
-        store.close(pass).into_parts().entries
-    }
-
-    /// Continues with an empty history and the same objects, so that calls may go on. Places begin at 1 again, and rows
-    /// at 0. The second value is the history so far.
-    pub fn renew(self) -> Result<(ObjectStore<I, NoDrive, Brand>, Entries), NotRenewed<I, NoDrive>>
-        ensures renewed { IfOk result (λ r. IsRenewed I.WIDTH self.pass r.1 r.0.pass.lock r.0.pass) }
-        ensures new { IfOk result (λ r. IsNewIn self.session r.0) }
-        ensures refused { refusal_of result ≡ store_refusal I.WIDTH self.pass.origin self.pass.seen }
-    {
-        let (alloc, session) = (self.alloc, self.session);
-        let (store, pass) = self.into_parts();
-        match renew_memory(alloc, store, pass) {
-            Ok(
-                Renewed {
-                    store,
-                    pass,
-                    entries,
-                },
-            ) => {
-                let mut next = ObjectStore::from_parts(alloc, store, pass);
-                next.set_session(session);
-                Ok((next, entries))
-            }
-            Err(refused) => Err(refused),
-        }
+        store.close(pass);
     }
 }

@@ -97,16 +97,23 @@ impl<I: Index, D: LogDisk, O: Start> ObjectStore<I, D, O> {
         self.session = session;
     }
 
+    // The label of the next call.
+    pub(crate) fn label(&self) -> Label
+        ensures { result ≡ label_of self.now }
+    {
+        Label {
+            session: self.session,
+            row: self.row,
+            place: self.place,
+        }
+    }
+
     // Makes the next calls with this label, and returns the one before.
     pub(crate) fn relabel(&mut self, label: Label) -> Label
         ensures store { self.new ≡ labelled self.old label }
         ensures before { result ≡ label_of self.old }
     {
-        let before = Label {
-            session: self.session,
-            row: self.row,
-            place: self.place,
-        };
+        let before = self.label();
         self.session = label.session;
         self.row = label.row;
         self.place = label.place;

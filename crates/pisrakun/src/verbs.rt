@@ -6,16 +6,16 @@ ghost use Rattle.store_client.specs.Verbs.{put_answer, move_answer, gone_answer,
 ghost use Rattle.store_client.specs.Verbs.{listed_answer, nearest_answer, AskedAs, TriesOnce, Reports};
 ghost use Rattle.pisrakun.specs.Now.{DoesNow};
 
-use crate::answers::{
-    at_reply, gone_reply, listed_reply, move_reply, nearest_reply, put_reply, put_report,
-};
 use crate::object_store::ObjectStore;
 use disk_trait::LogDisk;
 use index_layer::Index;
 use plain_list::{Op, PlacedList, Stamped};
 use sessions::{CallFault, Start};
 use std::sync::Wait;
-use store_client::{Listed, MoveReply, PutReply, Report};
+use store_client::{
+    Listed, MoveReply, PutReply, Report, at_reply, gone_reply, listed_reply, move_reply,
+    nearest_reply, put_reply, put_report,
+};
 use zorder::{Point, Region};
 
 impl<I: Index, D: LogDisk, O: Start> ObjectStore<I, D, O> {

@@ -1,0 +1,39 @@
+-- A store as one value, and a rotation that was refused.
+use Rattle.std.specs.Prelude.{◌≡◌, ℕ, Bool, List, ⊤}
+use Rattle.disk_trait.specs.Drive.{Drive}
+use Rattle.plain_list.specs.History.{failed_cell}
+use Rattle.log_compact.specs.Clearing.{Clears, FailsToClear}
+use Rattle.store_client.specs.Caller.{Caller}
+use Rattle.store_file.specs.Closed.{ClosesStore}
+use Rattle.store_file.specs.Opened.{IsFirst}
+use Rattle.store_file.specs.Rotated.{IsRotatedAlone, IsUnsure, RefusesAnew, world_left}
+use Rattle.store_file.specs.declared.rotating.NotRotated.{NotRotated}
+use Rattle.store_file.specs.declared.rotating.NotRotated.TheVariants as apart
+use Rattle.pisrakun.specs.declared.file_store.NotRotatedStore.{NotRotatedStore}
+use Rattle.pisrakun.specs.declared.file_store.NotRotatedStore.TheVariants.{Kept, Unsure, Uncleared, Memory}
+use Rattle.pisrakun.specs.declared.label.Label.{Label}
+
+-- A store that comes back with a pass has all parts of it.
+abbrev pub IsFirstIfKept : {I D P : Type 0} → NotRotated I D P → Type 0
+IsFirstIfKept (apart.Kept store pass spare cause) = IsFirst store pass
+IsFirstIfKept (apart.Unsure disk spare) = ⊤
+IsFirstIfKept (apart.Uncleared book old) = ⊤
+IsFirstIfKept (apart.Memory book spare) = ⊤
+
+-- The same, with the store and its pass as one value that calls with this label.
+abbrev pub IsAsOne : {I D P T : Type 0} → Label → NotRotated I D P → NotRotatedStore I D T → Type 0
+IsAsOne label (apart.Kept store pass spare cause) e = e ≡ Kept (record { pass = pass; session = label.session; row = label.row; place = label.place }) spare cause
+IsAsOne label (apart.Unsure disk spare) e = e ≡ Unsure disk spare
+IsAsOne label (apart.Uncleared book old) e = e ≡ Uncleared book old
+IsAsOne label (apart.Memory book spare) e = e ≡ Memory book spare
+
+-- What is left of a store that doesn't continue over a second file. If nothing was written there, it is the same store,
+-- unchanged. If the second drive failed, the store was closed, and its log keeps the history. Else it is the book over the
+-- second log: the first drive failed while its log was cleared, or memory ran out after that.
+abbrev pub KeepsOrEnds : {I D T : Type 0} → (D → Drive) → ℕ → (List (List Bool) → Type 0) → Caller → D → NotRotatedStore I D T → Type 0
+KeepsOrEnds drive w Are old spare (Kept store left cause) =
+    (store ≡ old) × RefusesAnew drive w Are (failed_cell old.pass.seen) (world_left old.pass.origin old.pass.seen) spare left cause
+KeepsOrEnds drive w Are old spare (Unsure disk left) =
+    ClosesStore drive w (λ start. ⊤) old.pass disk × IsUnsure drive w Are (failed_cell old.pass.seen) (world_left old.pass.origin old.pass.seen) spare left
+KeepsOrEnds drive w Are old spare (Uncleared book left) = IsRotatedAlone drive w Are (λ count. FailsToClear) old.pass spare book left
+KeepsOrEnds drive w Are old spare (Memory book left) = IsRotatedAlone drive w Are Clears old.pass spare book left
