@@ -16,7 +16,7 @@ mod plan;
 mod play;
 mod trouble;
 
-use pisrakun::{Entries, FileDisk, FileStore, KdTrie, LogDisk, MemoryStore};
+use pisrakun::{FileDisk, FileStore, KdTrie, LogDisk, MemoryStore};
 use plan::Plan;
 use play::{Moved, play};
 use std::process::ExitCode;
@@ -53,7 +53,7 @@ fn play_in_memory<R: Threads + Wait + Sync + AllocGlobal + Clock>(
 ) -> Result<Moved, Trouble> {
     let mut store = MemoryStore::<KdTrie>::in_memory(rt.alloc(), BUCKET)?;
     let moved = play(rt, &mut store, plan);
-    let _entries: Entries = store.close();
+    store.close();
     moved
 }
 

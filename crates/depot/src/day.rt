@@ -4,9 +4,7 @@ ghost use Rattle.std.specs.Prelude.{◌≡◌, IfSome, vec_len};
 use crate::drivers::{Driver, Told, count_found};
 use crate::trouble::Trouble;
 use crate::yard::Day;
-use pisrakun::{
-    FileStore, KdTrie, LogDisk, NotRenewed, NotRotated, RenewFault, Room, RotateCause, RotatedStore,
-};
+use pisrakun::{FileStore, KdTrie, LogDisk, NotRotatedStore, Room, RotatedStore};
 use std::alloc::Global;
 use std::sync::Wait;
 use std::thread::Threads;
@@ -24,7 +22,8 @@ pub struct DayEnd {
     pub room: Room,
 }
 
-/// Two days over a store. After them the store continues over a second file. Closes it, and returns the results of both.
+/// Two days over a store. After them the store continues over a second file, or over its own if the second one isn't free.
+/// Closes it, and returns the results of both.
 pub fn play_days<D: LogDisk + Send, R: Threads + Wait + Sync>(
     rt: &R,
     alloc: Global,
@@ -34,9 +33,8 @@ pub fn play_days<D: LogDisk + Send, R: Threads + Wait + Sync>(
 ) -> Result<[DayEnd; 2], Trouble> {
     vans.set_session(OFFICE);
     let first = play_day(rt, alloc, &mut vans, day);
-    let mut vans = end_day(vans)?;
     let second = play_day(rt, alloc, &mut vans, day.next());
-    let vans = end_days(vans, spare)?;
+    let vans = end_days(rt, vans, spare)?;
     match vans.close().lost {
         Some(cell) => Err(Trouble::Lost { cell }),
         None => Ok([first?, second?]),
@@ -59,48 +57,21 @@ fn play_day<D: LogDisk + Send, R: Threads + Wait + Sync>(
     }
 }
 
-// The end of a day. The next day begins with an empty history, over the same log.
-fn end_day<D: LogDisk>(vans: Vans<D>) -> Result<Vans<D>, Trouble> {
-    match vans.renew() {
-        Ok((vans, _)) => Ok(vans),
-        Err(refused) => Err(not_renewed(refused)),
-    }
-}
-
-// Why no day begins any more.
-fn not_renewed<D: LogDisk>(refused: NotRenewed<KdTrie, D>) -> Trouble {
-    match refused {
-        NotRenewed::Kept {
-            book: _,
-            cause: RenewFault::Closed { cell },
-        } => Trouble::Lost { cell },
-        _ => Trouble::NoDay,
-    }
-}
-
-// The end of the days. The store continues over a fresh log in the other file.
-fn end_days<D: LogDisk>(vans: Vans<D>, spare: D) -> Result<Vans<D>, Trouble> {
-    match vans.rotate(spare) {
-        Ok(
-            RotatedStore {
+// The end of the days. The store continues over a fresh log in the other file. If that file isn't free, or there is too
+// little memory, it goes on over its own.
+fn end_days<D: LogDisk, R: Wait>(rt: &R, vans: Vans<D>, spare: D) -> Result<Vans<D>, Trouble> {
+    match vans.rotate(rt, spare) {
+        Ok(RotatedStore { store, spare: _ }) => Ok(store),
+        Err(
+            NotRotatedStore::Kept {
                 store,
                 spare: _,
-                entries: _,
+                cause: _,
             },
         ) => Ok(store),
-        Err(refused) => Err(not_rotated(refused)),
-    }
-}
-
-// Why the store doesn't continue in the other file.
-fn not_rotated<D: LogDisk>(refused: NotRotated<KdTrie, D>) -> Trouble {
-    match refused {
-        NotRotated::Kept {
-            book: _,
-            spare: _,
-            cause: RotateCause::Closed { cell },
-        } => Trouble::Lost { cell },
-        _ => Trouble::NoFile,
+        Err(NotRotatedStore::Unsure { disk: _, spare: _ }) => Err(Trouble::NoFile),
+        Err(NotRotatedStore::Uncleared { book: _, old: _ }) => Err(Trouble::NoFile),
+        Err(NotRotatedStore::Memory { book: _, spare: _ }) => Err(Trouble::NoFile),
     }
 }
 

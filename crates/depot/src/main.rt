@@ -1,13 +1,13 @@
 //! A delivery company over the store and a log. For two days four drivers report where their vans are. Each driver has
 //! a thread of their own, and watches which vans leave the yard and come back. The reports are kept in a log in one of
 //! two files, `depot.log` and `depot.next.log`. A run creates the files if they aren't there. Otherwise it continues
-//! with what it finds, where the last run left the vans. Between the days the store is renewed, so its history begins
-//! again. After the days it is rotated into the other file. That file has one record for each van, and none for its
-//! earlier positions. Then both files are opened again, and each van is looked up.
+//! with what it finds, where the last run left the vans. After the days the store is rotated into the other file. That
+//! file has one record for each van, and none for its earlier positions. Then both files are opened again, and each van is
+//! looked up.
 //!
 //! The output is the same however the threads run. The drivers report vans of their own, each in a quarter of the town
 //! of their own. A leaf is split if it has too many vans, whatever order they came in. So neither the answers nor the
-//! numbers of entries and records depend on the order of the threads.
+//! numbers of records depend on the order of the threads.
 #![tactic(auto)]
 
 mod day;
@@ -46,8 +46,7 @@ fn tell_day(rt: &impl Print, number: usize, end: &DayEnd) -> io::Result<()> {
         )?;
     }
     println!(rt;
-        "day {number}: room for {} more entries, and {} more records",
-        end.room.entries,
+        "day {number}: room for {} more records",
         end.room.records.unwrap_or(0)
     )
 }

@@ -13,8 +13,6 @@ pub enum Trouble {
     Lost { cell: u64 },
     #[error("no driver begins the day")]
     NoDrivers,
-    #[error("no day begins any more")]
-    NoDay,
     #[error("the store doesn't go on in the other file")]
     NoFile,
     #[error("{0}")]

@@ -4,7 +4,7 @@ ghost use Rattle.std.specs.Prelude.{◌≡◌, IfSome, vec_len};
 use crate::callers::Caller;
 use crate::map::{AROUND, nearest_free};
 use crate::town::{DISPATCHER, STATION, TAKEN, WAITING};
-use pisrakun::{Entries, Entry, Index, Memory, MemoryStore, Placed, PlacedList, View};
+use pisrakun::{Index, Memory, MemoryStore, Placed, PlacedList, View};
 use std::alloc::Global;
 use std::sync::Wait;
 use std::thread::Threads;
@@ -13,7 +13,6 @@ use std::thread::Threads;
 #[derive(Drop)]
 pub struct Day<I: Index> {
     pub callers: Vec<Caller>,
-    pub events: Entries,
     pub evening: Evening<I>,
 }
 
@@ -36,13 +35,9 @@ pub fn play_day<I: Index + Send, R: Threads + Wait + AllocGlobal + Sync>(
     taxis.set_session(DISPATCHER);
     let day = call_all_day(rt, &mut taxis);
     let _ = taxis.settle(rt);
-    let events = taxis.close();
+    taxis.close();
     let (callers, evening) = day?;
-    Some(Day {
-        callers,
-        events,
-        evening,
-    })
+    Some(Day { callers, evening })
 }
 
 // Three drivers and the dispatcher.
@@ -80,18 +75,7 @@ fn evening_of<I: Index>(alloc: Global, view: View<I>) -> Result<Evening<I>, Memo
 
 impl<I: Index> Day<I> {
     /// How many calls there were.
-    pub fn calls(&self) -> usize {
-        let entries = self.events.as_slice().iter();
-        entries
-            .filter(|entry| matches!(entry, Entry::Call { .. }))
-            .count()
-    }
-
-    /// How many leaves were split.
-    pub fn splits(&self) -> usize {
-        let entries = self.events.as_slice().iter();
-        entries
-            .filter(|entry| matches!(entry, Entry::Install { .. }))
-            .count()
+    pub fn calls(&self) -> u64 {
+        self.evening.view.place()
     }
 }

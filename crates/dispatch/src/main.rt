@@ -4,8 +4,7 @@
 //! changes nothing. Then the dispatcher draws a map.
 //!
 //! The program prints the same lines however the threads run. Each driver moves taxis of its own in a quarter of its
-//! own. So the answers, the number of calls and splits, and the map at the end don't depend on the order of the
-//! threads.
+//! own. So the answers, the number of calls and the map at the end don't depend on the order of the threads.
 #![tactic(auto)]
 
 ghost use Rattle.std.specs.Prelude.{◌<◌};
@@ -27,7 +26,7 @@ const BUCKET: u32 = 4;
 
 fn tell(rt: &impl Print, day: &Day<KdTrie>) -> io::Result<()> {
     tell_told(rt, day.callers.as_slice())?;
-    println!(rt; "calls {}, splits {}", day.calls(), day.splits())?;
+    println!(rt; "calls {}", day.calls())?;
     tell_map(rt, &day.evening.view)?;
     tell_station(rt, &day.evening)
 }

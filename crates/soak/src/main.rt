@@ -1,32 +1,32 @@
 //! Runs a store for long, in memory or over two files, and checks its answers.
 //!
-//! `soak CALLS THREADS OBJECTS SEED ENTRIES [quiet | files ONE TWO | chain ONE TWO | turns [ONE TWO]]`: the run makes
-//! CALLS calls (by default 20,000,000) in THREADS threads (at most 4) on OBJECTS objects (by default 100,000). The
-//! calls are puts, moves (some of them late), removals, finds, boxes and nears, as the seed decides. When a history has
-//! ENTRIES entries (by default 3,900,000), the threads meet and the store is renewed: it continues with an empty
-//! history. Each history is then checked. A plain map of this program makes the changes, and each answer of a call must
-//! be the answer of the map at that place.
+//! `soak CALLS THREADS OBJECTS SEED ROUND [quiet | files ONE TWO | chain ONE TWO | turns ONE TWO]`: the run makes CALLS
+//! calls (by default 20,000,000) in THREADS threads (at most 4) on OBJECTS objects (by default 100,000). The calls are
+//! puts, moves (some of them late), removals, finds, boxes and nears, as the seed decides. After each ROUND calls (by
+//! default 3,900,000) the threads meet, and the calls of the round are checked in the order of their places. Each place
+//! must be that of one call. A plain map of this program makes the changes, and each answer must be the answer of the map
+//! at that place. In memory the same store goes on for all rounds.
 //!
 //! A check of a box or a near goes over all objects. So if there are n objects, it checks one in n / 100 of these
 //! queries. At the end it looks up all objects. A difference is reported, and the run ends with status 1.
 //!
-//! Before each renewal the run takes a view, and holds it until it is 10,000 calls old. After each history it compares
+//! At the end of each round the run takes a view, and holds it until it is 10,000 calls old. After each round it compares
 //! all views that it holds with what the map had when they were taken: how many objects there were, how many were in a
 //! box and which, and which were the nearest of a point.
 //!
-//! With `files` the store has a log in one of these two files, which must have no objects. Instead of a renewal the
-//! store is rotated: it continues over a fresh log in the other file. Each second rotation builds new leaves. The run
-//! prints each renewal or rotation with its time, how many boxes and nears were checked, and how many objects there are
-//! at the end. With `quiet` it prints only what doesn't depend on the schedule.
+//! With `files` the store has a log in one of these two files, which must have no objects. After each round the store is
+//! rotated: it continues over a fresh log in the other file. Each second rotation builds new leaves. The run prints each
+//! rotation with its time. A run prints how many boxes and nears were checked, and how many objects there are at the end.
+//! With `quiet` it prints only what doesn't depend on the schedule.
 //!
 //! With `chain` the run continues with what it finds in these files. Each thread moves objects of its own to new
 //! positions, one after the other. The number of a change determines the change. So the objects must be exactly where a
-//! number of first changes of each thread leaves them. The run prints how many changes it found. After about ENTRIES
+//! number of first changes of each thread leaves them. The run prints how many changes it found. After about ROUND
 //! changes it prints how many were made, and rotates the store. If you kill the run, the next start reports what is
 //! there. `tools/soak` drives it.
 //!
-//! With `turns` the run puts OBJECTS objects, and then renews the store CALLS times, with the time of each renewal.
-//! With two files it rotates the store instead, and each second rotation builds new leaves.
+//! With `turns` the run puts OBJECTS objects, and then rotates the store CALLS times, with the time of each rotation. Each
+//! second one builds new leaves.
 #![tactic(auto)]
 
 ghost use Rattle.std.specs.Prelude.{◌≤◌, IfOk};
@@ -66,7 +66,7 @@ use std::sync::Wait;
 use std::thread::Threads;
 use store_file::{OpenedEither, open_either};
 use trouble::Trouble;
-use turns::{turn_in_memory, turn_over_files};
+use turns::turn_over_files;
 
 // How many objects a leaf should have.
 const BUCKET: u32 = 64;
@@ -93,7 +93,7 @@ fn plan_of(words: &mut Args) -> Plan {
         threads: number(words.next(), 4, 4).max(1) as u8,
         objects: number(words.next(), 100_000, 1_048_576).max(1) as u32,
         seed: number(words.next(), 1, u64::MAX),
-        entries: number(words.next(), 3_900_000, 4_000_000).max(1),
+        round: number(words.next(), 3_900_000, u64::MAX).max(1),
     }
 }
 
@@ -108,13 +108,8 @@ enum Mode {
 }
 
 impl Mode {
-    // Whether it runs in memory. For `turns` this is so if no file is named.
-    fn is_in_memory(self, has_files: bool) -> bool {
-        match self {
-            Mode::Memory | Mode::Quiet => true,
-            Mode::Files | Mode::Chain => false,
-            Mode::Turns => !has_files,
-        }
+    fn is_in_memory(self) -> bool {
+        matches!(self, Mode::Memory | Mode::Quiet)
     }
 }
 
@@ -135,26 +130,20 @@ fn store_in_memory(alloc: Global) -> Result<MemoryStore, Trouble>
     let Ok(book) = Book::<KdTrie, MemDisk>::fresh(alloc, BUCKET) else {
         return Err(Trouble::Memory);
     };
-    match Store::new(alloc, book) {
+    match Store::new(alloc, book.without_list()) {
         Ok(both) => Ok(both),
         Err(_) => Err(Trouble::Memory),
     }
 }
 
 // Runs over a store in memory.
-fn play_in_memory<R: Threads + Wait + Sync + AllocGlobal + Clock + Print>(
+fn play_in_memory<R: Threads + Wait + Sync + AllocGlobal>(
     rt: &R,
     plan: Plan,
-    mode: Mode,
-) -> Result<Option<Judge>, Trouble> {
+) -> Result<Judge, Trouble> {
     let alloc = rt.alloc();
     let (store, pass) = store_in_memory(alloc)?;
-    if mode == Mode::Turns {
-        turn_in_memory(rt, alloc, store, pass, plan)?;
-        return Ok(None);
-    }
-    let tells = mode == Mode::Memory;
-    Ok(Some(play(rt, alloc, store, pass, plan, tells)?))
+    play(rt, alloc, store, pass, plan)
 }
 
 // The store over the log in one of the files.
@@ -214,11 +203,10 @@ fn play_as<R: Threads + Wait + Sync + AllocGlobal + Clock + Print, D: LogDisk + 
     mode: Mode,
     words: &mut Args,
 ) -> Result<Option<Judge>, Trouble> {
-    let (one, two) = (words.next(), words.next());
-    if mode.is_in_memory(one.is_some()) {
-        return play_in_memory(rt, plan, mode);
+    if mode.is_in_memory() {
+        return Ok(Some(play_in_memory(rt, plan)?));
     }
-    let (Some(one), Some(two)) = (one, two) else {
+    let (Some(one), Some(two)) = (words.next(), words.next()) else {
         return Err(Trouble::Words);
     };
     play_in_files(rt, plan, drives, (one.as_str(), two.as_str()), mode)

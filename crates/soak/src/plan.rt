@@ -2,7 +2,6 @@
 ghost use Rattle.std.specs.Prelude.{◌<◌};
 
 use plain_list::Op;
-use store_client::MOST_EVENTS;
 
 /// How many calls there are, and how many threads make them.
 #[derive(Clone, Copy)]
@@ -14,8 +13,8 @@ pub struct Plan {
     /// How many objects there may be.
     pub objects: u32,
     pub seed: u64,
-    /// About how many entries a history gets before the store continues with another one.
-    pub entries: u64,
+    /// About how many calls there are in a round. After each round the threads meet.
+    pub round: u64,
 }
 
 impl Plan {
@@ -35,14 +34,9 @@ impl Plan {
         u64::from(self.objects / u32::from(self.threads.max(1))).max(1)
     }
 
-    /// How many changes a chain makes until the next rotation.
+    /// How many calls a thread makes in a round.
     pub fn each(&self) -> u64 {
-        (self.entries / u64::from(self.threads.max(1))).max(1)
-    }
-
-    /// Whether a history has so many entries that the threads are to meet. `room` is the room that is left.
-    pub fn is_over(&self, room: u64) -> bool {
-        MOST_EVENTS.saturating_sub(room) >= self.entries
+        (self.round / u64::from(self.threads.max(1))).max(1)
     }
 
     /// Whether the answer of a call is checked, by its place in the history.

@@ -54,9 +54,8 @@ pub fn chain_over_files<I: Index + Send, D: LogDisk + Send, R: Threads + Wait + 
         let Rotated {
             store: next,
             pass: whole,
-            entries: _,
             spare: left,
-        } = rotate(alloc, store, back, spare, Leaves::of_turn(turn))?;
+        } = rotate(rt, alloc, store, back, spare, Leaves::of_turn(turn))?;
         store = next;
         pass = whole;
         spare = left;

@@ -1,4 +1,4 @@
-//! Rounds of calls: all threads at once, and then the store continues with an empty history.
+//! Rounds of calls: all threads at once, and then a check of their answers.
 ghost use Rattle.std.specs.Prelude.{◌≡◌, IfOk, IfSome, vec_len};
 ghost use Rattle.soak.specs.Whole.{IsWhole};
 
@@ -12,8 +12,7 @@ use book_lock::Pass;
 use disk_trait::LogDisk;
 use index_layer::Index;
 use index_view::View;
-use plain_list::Entry;
-use sessions::{NotRenewed, Renewed, SharedBook, Start, Store};
+use sessions::{SharedBook, Start, Store};
 use std::alloc::Global;
 use std::io::Print;
 use std::marker::Brand;
@@ -69,45 +68,36 @@ fn crew_of(alloc: Global, plan: Plan) -> Option<Vec<Soaker>>
     Vec::from_array(alloc, crew).ok()
 }
 
-/// All calls of a run over an empty store in memory, and then a look at all objects. Prints each renewal of the store,
-/// if the plan says so.
-pub fn play<I: Index + Send, D: LogDisk + Send, R: Threads + Wait + Sync + Clock + Print>(
+/// All calls of a run over an empty store in memory, and then a look at all objects.
+pub fn play<I: Index + Send, D: LogDisk + Send, R: Threads + Wait + Sync>(
     rt: &R,
     alloc: Global,
-    mut store: Store<I, D, Brand>,
+    store: Store<I, D, Brand>,
     mut pass: SoakPass<I, D, Brand>,
     plan: Plan,
-    tells: bool,
 ) -> Result<Judge, Trouble>
     requires { IsWhole store pass }
 {
     let mut crew = crew_of(alloc, plan);
     let mut judge = Judge::new(alloc);
     let mut views = Views::new(alloc);
+    let mut done = Ok(false);
     for _ in 0..u64::MAX {
+        if !matches!(done, Ok(false)) {
+            break;
+        }
         let back = play_round(rt, alloc, &store, pass, &mut crew);
         let (view, back) = view_of(rt, alloc, &store, back);
-        let Renewed {
-            store: next,
-            pass: whole,
-            entries,
-        } = renew(rt, alloc, store, back, tells)?;
-        store = next;
-        pass = whole;
-        let done = look(alloc, &mut judge, entries.as_slice(), &mut crew);
-        match look_at_views(&mut views, view, &mut judge, done) {
-            Ok(false) => {}
-            done => {
-                end(rt, alloc, store, pass, &judge, done)?;
-                return Ok(judge);
-            }
-        }
+        pass = back;
+        let told = look(alloc, &mut judge, &mut crew);
+        done = look_at_views(&mut views, view, &mut judge, told);
     }
-    end(rt, alloc, store, pass, &judge, Ok(false))?;
+    end(rt, alloc, store, pass, &judge, done)?;
     Ok(judge)
 }
 
-/// The same over an empty store in one of two files. It continues in the other file each time, and that is printed.
+/// The same over an empty store in one of two files. It continues in the other file after each round, and that is
+/// printed.
 pub fn play_over_files<
     I: Index + Send,
     D: LogDisk + Send,
@@ -131,14 +121,15 @@ pub fn play_over_files<
         let Rotated {
             store: next,
             pass: whole,
-            entries,
             spare: left,
         } = rotate_and_tell(rt, alloc, store, back, spare, Leaves::of_turn(turn))?;
         store = next;
         pass = whole;
         spare = left;
-        let done = look(alloc, &mut judge, entries.as_slice(), &mut crew);
-        match look_at_views(&mut views, view, &mut judge, done) {
+        let told = look(alloc, &mut judge, &mut crew);
+        let done = look_at_views(&mut views, view, &mut judge, told);
+        judge.begin_again();
+        match done {
             Ok(false) => {}
             done => {
                 end(rt, alloc, store, pass, &judge, done)?;
@@ -150,21 +141,16 @@ pub fn play_over_files<
     Ok(judge)
 }
 
-// Prints how long it took to renew or to rotate a store whose history had `entries` entries.
-fn tell_turn(rt: &(impl Clock + Print), begun: Option<Instant>, entries: usize, leaves: &str) {
+// Prints how long it took to rotate a store.
+fn tell_turn(rt: &(impl Clock + Print), begun: Option<Instant>, leaves: &str) {
     if let Some(took) = begun.and_then(|begun| begun.elapsed(rt).ok()) {
         let micros = took.as_micros();
-        let _ = println!(rt; "turn {entries} entries {micros} microseconds{leaves}");
+        let _ = println!(rt; "turn {micros} microseconds{leaves}");
     }
 }
 
-// Checks a history that has ended, and returns whether all calls were made.
-fn look(
-    alloc: Global,
-    judge: &mut Judge,
-    entries: &[Entry],
-    crew: &mut Option<Vec<Soaker>>,
-) -> Result<bool, Trouble>
+// Checks a round that has ended, and returns whether all calls were made.
+fn look(alloc: Global, judge: &mut Judge, crew: &mut Option<Vec<Soaker>>) -> Result<bool, Trouble>
     requires { IfSome crew.old (λ all. vec_len all ≡ 4) }
     ensures { IfSome crew.new (λ all. vec_len all ≡ 4) }
 {
@@ -174,7 +160,7 @@ fn look(
     if let Some(fault) = crew.iter().find_map(|soaker| soaker.fault) {
         return Err(Trouble::Refused(fault));
     }
-    judge.judge(entries, crew)?;
+    judge.judge(crew)?;
     for soaker in crew.iter_mut() {
         // The memory of a long round isn't kept for the next one.
         soaker.replies = Vec::new(alloc);
@@ -215,32 +201,8 @@ fn end<I: Index, D: LogDisk, O: Start, R: Wait>(
     told
 }
 
-/// The same store with an empty history, and the same objects. Prints how long that took, if the caller wants it.
-pub fn renew<I: Index, D: LogDisk, R: Clock + Print>(
-    rt: &R,
-    alloc: Global,
-    store: Store<I, D, Brand>,
-    pass: SoakPass<I, D, Brand>,
-    tells: bool,
-) -> Result<Renewed<I, D, Brand>, Trouble>
-    requires { IsWhole store pass }
-    ensures { IfOk result (λ r. IsWhole r.store r.pass) }
-{
-    let begun = Instant::now(rt).ok();
-    match store.renew::<Brand>(alloc, pass) {
-        Ok(renewed) => {
-            if tells {
-                tell_turn(rt, begun, renewed.entries.as_slice().len(), "");
-            }
-            Ok(renewed)
-        }
-        Err(NotRenewed::Kept { cause, .. }) => Err(Trouble::NotRenewed(cause)),
-        Err(NotRenewed::Memory { .. }) => Err(Trouble::NoLock),
-    }
-}
-
 /// The same objects over a fresh log in the other file. Prints how long that took.
-pub fn rotate_and_tell<I: Index, D: LogDisk, R: Clock + Print>(
+pub fn rotate_and_tell<I: Index, D: LogDisk, R: Wait + Clock + Print>(
     rt: &R,
     alloc: Global,
     store: Store<I, D, OverFile>,
@@ -252,14 +214,14 @@ pub fn rotate_and_tell<I: Index, D: LogDisk, R: Clock + Print>(
     ensures { IfOk result (λ r. IsWhole r.store r.pass) }
 {
     let begun = Instant::now(rt).ok();
-    let rotated = rotate(alloc, store, pass, spare, leaves)?;
-    let entries = rotated.entries.as_slice().len();
-    tell_turn(rt, begun, entries, leaves.word());
+    let rotated = rotate(rt, alloc, store, pass, spare, leaves)?;
+    tell_turn(rt, begun, leaves.word());
     Ok(rotated)
 }
 
-/// The same objects over a fresh log in the other file.
-pub fn rotate<I: Index, D: LogDisk>(
+/// The same objects over a fresh log in the other file. If the store isn't rotated, it is closed.
+pub fn rotate<I: Index, D: LogDisk, R: Wait>(
+    rt: &R,
     alloc: Global,
     store: Store<I, D, OverFile>,
     pass: SoakPass<I, D, OverFile>,
@@ -270,22 +232,25 @@ pub fn rotate<I: Index, D: LogDisk>(
     ensures { IfOk result (λ r. IsWhole r.store r.pass) }
 {
     let rotated = match leaves {
-        Leaves::Kept => rotate_store(alloc, store, pass, spare),
-        Leaves::Anew => rotate_anew(alloc, store, pass, spare),
+        Leaves::Kept => rotate_store(rt, alloc, store, pass, spare),
+        Leaves::Anew => rotate_anew(rt, alloc, store, pass, spare),
     };
     match rotated {
         Ok(rotated) => Ok(rotated),
-        Err(refused) => Err(why_not(&refused)),
-    }
-}
-
-// Why a store wasn't rotated, or was rotated but doesn't continue.
-fn why_not<I: Index, D: LogDisk>(refused: &NotRotated<I, D>) -> Trouble {
-    match refused {
-        NotRotated::Kept { cause, .. } => Trouble::NotRotated(*cause),
-        NotRotated::Unsure { .. } => Trouble::SpareFailed,
-        NotRotated::Uncleared { .. } => Trouble::NotEmptied,
-        NotRotated::Memory { .. } => Trouble::NoLock,
+        Err(
+            NotRotated::Kept {
+                store,
+                pass,
+                spare: _,
+                cause,
+            },
+        ) => {
+            store.close(pass);
+            Err(Trouble::NotRotated(cause))
+        }
+        Err(NotRotated::Unsure { disk: _, spare: _ }) => Err(Trouble::SpareFailed),
+        Err(NotRotated::Uncleared { book: _, old: _ }) => Err(Trouble::NotEmptied),
+        Err(NotRotated::Memory { book: _, spare: _ }) => Err(Trouble::NoLock),
     }
 }
 

@@ -14,18 +14,15 @@ use std::sync::Wait;
 use store_client::{Client, Work};
 use zorder::{Point, Region};
 
-// How many calls a thread makes before it looks at the room again.
-const LOOK: u64 = 64;
-
-/// The answer that a thread had for a call, if it is checked, and the place of the call among those of the history,
-/// from 1.
+/// A call of a thread, its place among those of the history, from 1, and its answer, if it is checked.
 #[derive(Drop)]
 pub struct Noted {
     pub place: u64,
+    pub op: Op,
     pub answer: Option<Answer>,
 }
 
-/// A thread of drawn calls, and its answers since the history began.
+/// A thread of drawn calls, and its answers of this round.
 #[derive(Drop)]
 pub struct Soaker {
     dice: Dice,
@@ -115,7 +112,8 @@ impl Soaker {
         } else {
             None
         };
-        if self.replies.push(Noted { place, answer }).is_err() {
+        let op = *op;
+        if self.replies.push(Noted { place, op, answer }).is_err() {
             self.fault = Some(CallFault::Memory { place: Some(place) });
         }
     }
@@ -125,11 +123,8 @@ impl<R: Wait> Work<R> for Soaker {
     fn work<I: Index, D: LogDisk, O: Start>(&mut self, rt: &R, client: &mut Client<'_, I, D, O>)
         ensures client { Keeps client.old client.new }
     {
-        for call in 0..u64::MAX {
+        for _ in 0..self.plan.each() {
             if self.left == 0 || self.fault.is_some() {
-                return;
-            }
-            if call % LOOK == 0 && self.plan.is_over(client.room(rt).entries) {
                 return;
             }
             let op = self.next_op();

@@ -1,6 +1,5 @@
 //! What ends a run early.
 use crate::chain::Broken;
-use commit_book::RenewFault;
 use plain_list::Op;
 use sessions::CallFault;
 use std::alloc::AllocError;
@@ -22,22 +21,20 @@ pub enum Trouble {
     InUse { points: u64 },
     #[error("a call was refused: {0}")]
     Refused(#[from] CallFault),
-    #[error("the store wasn't renewed: {0}")]
-    NotRenewed(RenewFault),
     #[error("the store wasn't rotated: {0}")]
     NotRotated(RotateCause),
     #[error("the store wasn't rotated: the drive of the second file failed")]
     SpareFailed,
     #[error("the store was rotated, but the first file wasn't emptied: its drive failed")]
     NotEmptied,
-    #[error("the store was renewed or rotated, but there was no memory to go on")]
+    #[error("the store was rotated, but there was no memory to go on")]
     NoLock,
     #[error("call {place}, {op:?}, wasn't told what it should be")]
     Answer { place: u64, op: Op },
     #[error("nobody was told of call {place} of the history")]
     Nobody { place: u64 },
-    #[error("the history has {calls} calls, and {replies} were answered")]
-    Count { calls: u64, replies: u64 },
+    #[error("the view after call {should} is one after call {found}")]
+    Place { found: u64, should: u64 },
     #[error("the store has {found} objects, and should have {should}")]
     Number { found: u64, should: u64 },
     #[error("the view after {calls} calls isn't as the objects were then")]

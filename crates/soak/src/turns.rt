@@ -1,17 +1,16 @@
-//! A full store that is renewed, or goes from one file to the other and back, to measure how long that takes.
+//! A full store that goes from one file to the other and back, to measure how long that takes.
 ghost use Rattle.soak.specs.Whole.{IsWhole};
 ghost use Rattle.store_client.specs.Caller.{Keeps};
 
 use crate::dice::Dice;
 use crate::plan::Plan;
-use crate::soak::{LAST, Leaves, SoakPass, renew, rotate_and_tell};
+use crate::soak::{LAST, Leaves, SoakPass, rotate_and_tell};
 use crate::trouble::Trouble;
 use disk_trait::LogDisk;
 use index_layer::Index;
-use sessions::{CallFault, Renewed, Start, Store};
+use sessions::{CallFault, Start, Store};
 use std::alloc::Global;
 use std::io::Print;
-use std::marker::Brand;
 use std::rt::Clock;
 use std::sync::Wait;
 use store_client::Client;
@@ -32,35 +31,6 @@ fn fill<I: Index, D: LogDisk, O: Start, R: Wait>(
         client.put(rt, id, dice.place(), 0)?;
     }
     Ok(())
-}
-
-/// Fills an empty store in memory, and renews it `plan.calls` times. Prints each renewal.
-pub fn turn_in_memory<I: Index, D: LogDisk, R: Wait + Clock + Print>(
-    rt: &R,
-    alloc: Global,
-    mut store: Store<I, D, Brand>,
-    mut pass: SoakPass<I, D, Brand>,
-    plan: Plan,
-) -> Result<(), Trouble>
-    requires { IsWhole store pass }
-{
-    let mut client = Client::new(&store, alloc, pass, LAST);
-    let filled = fill(rt, &mut client, plan);
-    pass = client.into_pass();
-    for _ in 0..plan.calls {
-        if filled.is_err() {
-            break;
-        }
-        let Renewed {
-            store: next,
-            pass: whole,
-            entries: _,
-        } = renew(rt, alloc, store, pass, true)?;
-        store = next;
-        pass = whole;
-    }
-    store.close(pass);
-    Ok(filled?)
 }
 
 /// Fills an empty store in one of two files, and rotates it `plan.calls` times. Prints each rotation.
@@ -84,7 +54,6 @@ pub fn turn_over_files<I: Index, D: LogDisk, R: Wait + Clock + Print>(
         let Rotated {
             store: next,
             pass: whole,
-            entries: _,
             spare: left,
         } = rotate_and_tell(rt, alloc, store, pass, spare, Leaves::of_turn(turn))?;
         store = next;

@@ -130,8 +130,6 @@ impl<I: Index> HeldView<I> {
 pub struct Views<I: Index> {
     alloc: Global,
     held: Vec<HeldView<I>>,
-    // How many calls all histories had.
-    calls: u64,
 }
 
 impl<I: Index> Views<I> {
@@ -139,27 +137,29 @@ impl<I: Index> Views<I> {
         Views {
             alloc,
             held: Vec::new(alloc),
-            calls: 0,
         }
     }
 
-    /// Takes the view at the end of a history that was checked, and compares all that are held. Then it drops those
-    /// that are old enough.
+    /// Takes the view at the end of a round that was checked, and compares all that are held. Then it drops those that
+    /// are old enough.
     pub fn look(&mut self, view: Option<View<I>>, judge: &mut Judge) -> Result<(), Trouble> {
         let Some(view) = view else {
             return Err(Trouble::Memory);
         };
+        let (found, should) = (view.place(), judge.place);
+        if found != should {
+            return Err(Trouble::Place { found, should });
+        }
         self.hold(view, judge)?;
         self.compare(judge)?;
-        let calls = self.calls;
+        let calls = judge.calls;
         self.held
             .retain(|held| calls.saturating_sub(held.calls) < OLD);
         Ok(())
     }
 
     fn hold(&mut self, view: View<I>, judge: &Judge) -> Result<(), AllocError> {
-        self.calls = self.calls.saturating_add(view.place());
-        let calls = self.calls;
+        let calls = judge.calls;
         let sight = Sight::in_map(judge, &Question::of(calls))?;
         self.held.push(HeldView { view, calls, sight })?;
         Ok(())
@@ -172,7 +172,7 @@ impl<I: Index> Views<I> {
                 return Err(Trouble::View { calls: held.calls });
             }
             judge.views = judge.views.saturating_add(1);
-            judge.oldest = judge.oldest.max(self.calls.saturating_sub(held.calls));
+            judge.oldest = judge.oldest.max(judge.calls.saturating_sub(held.calls));
         }
         Ok(())
     }

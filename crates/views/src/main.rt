@@ -50,7 +50,7 @@ fn run<R: Threads + Wait + Sync + AllocGlobal + Clock + Env + Print>(
     let Ok(book) = Book::<KdTrie, MemDisk>::fresh(rt.alloc(), BUCKET) else {
         return Err(Trouble::Memory);
     };
-    play(rt, book, plan)
+    play(rt, book.without_list(), plan)
 }
 
 fn main(rt: HostRuntime) -> ExitCode {
