@@ -18,7 +18,7 @@ use std::process::Abort;
 use std::sync::Wait;
 use std::thread::Threads;
 use store_client::{Batch, Client, MOST_BATCH, NotAdded, Work};
-use store_file::{ClosedStore, OpenedStore, OverFile, close_store, open_store};
+use store_file::{OpenedStore, OverFile, open_store};
 use zorder::Point;
 
 const HERE: Point = Point { x: 5, y: 5 };
@@ -303,15 +303,12 @@ fn apply_over<I: Index, D: LogDisk, R: Wait + Abort>(
     rt: &R,
     alloc: Global,
     disk: D,
-) -> ([Applied; 2], usize, D) {
+) -> ([Applied; 2], u64, D) {
     let (store, pass) = open::<I, D>(rt, alloc, disk);
     let (told, pass) = apply_twice(rt, alloc, &store, pass);
-    let ClosedStore {
-        disk,
-        entries,
-        lost: _,
-    } = close_store(store, pass);
-    (told, entries.as_slice().len(), disk)
+    let book = store.close(pass);
+    let entries = book.events();
+    (told, entries, book.into_parts().disk.expect(rt, "no log"))
 }
 
 // The same over a log of one record, on a drive of which these calls fail.
@@ -319,7 +316,7 @@ fn applies<R: Wait + Abort>(
     rt: &R,
     alloc: Global,
     failing: &[Fail],
-) -> ([Applied; 2], usize, MemDisk) {
+) -> ([Applied; 2], u64, MemDisk) {
     let disk = failing_disk(rt, alloc, &[HEADER, PUT_4, END], failing);
     apply_over::<FlatIndex, MemDisk, R>(rt, alloc, disk)
 }

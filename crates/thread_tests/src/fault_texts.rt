@@ -1,6 +1,5 @@
-//! The texts of a refused call, an operation that is not added to a batch, a refused renewal or rotation, and a refused
-//! opening in memory or of two files.
-use commit_book::RenewFault;
+//! The texts of a refused call, an operation that is not added to a batch, a refused rotation, and a refused opening in
+//! memory or of two files.
 use pisrakun::NotInMemory;
 use recovery::OpenFault;
 use sessions::CallFault;
@@ -28,19 +27,6 @@ const REFUSED: &[(CallFault, &str)] = &[
 const NOT_ADDED: &[(NotAdded, &str)] = &[
     (NotAdded::TooLong, "the batch is full"),
     (NotAdded::Memory, "out of memory"),
-];
-
-const NOT_RENEWED: &[(RenewFault, &str)] = &[
-    (
-        RenewFault::Closed { cell: 3 },
-        "the append of record 3 has failed",
-    ),
-    (
-        RenewFault::Begun {
-            splits: 4_611_686_018_427_387_905,
-        },
-        "4611686018427387905 splits were begun, too many for a further history",
-    ),
 ];
 
 const NOT_OVER_A_FILE: &[(OpenCause, &str)] = &[
@@ -123,13 +109,6 @@ fn a_refused_call_tells_its_cause(rt: HostRuntime) {
 #[test]
 fn an_operation_that_is_not_added_tells_its_cause(rt: HostRuntime) {
     for (fault, text) in NOT_ADDED {
-        expect_text(&rt, rt.alloc(), fault, text);
-    }
-}
-
-#[test]
-fn a_refused_renewal_tells_its_cause(rt: HostRuntime) {
-    for (fault, text) in NOT_RENEWED {
         expect_text(&rt, rt.alloc(), fault, text);
     }
 }

@@ -1,4 +1,4 @@
-//! Stores over files: opened and closed, renewed, and opened over either of two.
+//! Stores over files: opened and closed, and opened over either of two.
 ghost use Rattle.std.specs.Prelude.{◌≡◌, IfOk};
 ghost use Rattle.store_client.specs.Caller.{IsFree};
 ghost use Rattle.store_file.specs.Opened.{IsFirst};
@@ -13,15 +13,15 @@ use flat_index::FlatIndex;
 use index_layer::Index;
 use plain_list::Stamped;
 use recovery::OpenFault;
-use sessions::{Renewed, SharedBook, Store};
+use sessions::{SharedBook, Store};
 use std::alloc::Global;
 use std::process::Abort;
 use std::sync::Wait;
 use store_client::Client;
 use store_file::{
     ClosedStore, EitherCause, NotEither, NotOpened, NotRotated, OpenCause, OpenedEither,
-    OpenedStore, OverFile, Rotated, Which, close_store, open_either, open_store, renew_store,
-    rotate_anew, rotate_store,
+    OpenedStore, OverFile, Rotated, Which, close_store, open_either, open_store, rotate_anew,
+    rotate_store,
 };
 use zorder::Point;
 
@@ -149,22 +149,18 @@ pub(crate) fn filled<I: Index, D: LogDisk, R: Wait + Abort>(
     (store, pass)
 }
 
-// Ends a store, all of whose appends went well. Returns how many entries it had, and its drive.
+// Ends a store, all of whose appends went well. Returns its drive.
 pub(crate) fn close<I: Index, D: LogDisk>(
     rt: &impl Abort,
     store: Store<I, D, OverFile>,
     pass: Pass<SharedBook<I, D, OverFile>>,
-) -> (usize, D)
+) -> D
     requires free { IsFree store pass }
     requires parts { pass.parts ≡ 65536 }
 {
-    let ClosedStore {
-        entries,
-        lost,
-        disk,
-    } = close_store(store, pass);
+    let ClosedStore { lost, disk } = close_store(store, pass);
     assert_same!(rt; lost, None);
-    (entries.as_slice().len(), disk)
+    disk
 }
 
 // What is found over a file, and the drive.
@@ -181,7 +177,7 @@ pub(crate) fn found_on<I: Index, D: LogDisk, R: Wait + Abort>(
         records,
     } = open::<I, D>(rt, alloc, disk);
     let (places, pass) = look(rt, alloc, &store, pass);
-    let (_, disk) = close(rt, store, pass);
+    let disk = close(rt, store, pass);
     ((points, latest, records, places), disk)
 }
 
@@ -217,25 +213,8 @@ pub(crate) fn found_in<I: Index, D: LogDisk, R: Wait + Abort>(
         which,
     } = open_one::<I, D>(rt, alloc, first, second);
     let (places, pass) = look(rt, alloc, &store, pass);
-    let (_, disk) = close(rt, store, pass);
+    let disk = close(rt, store, pass);
     (which, (points, latest, records, places), disk, spare)
-}
-
-fn renewed<I: Index, D: LogDisk>(
-    rt: &impl Abort,
-    alloc: Global,
-    store: Store<I, D, OverFile>,
-    pass: Pass<SharedBook<I, D, OverFile>>,
-) -> Renewed<I, D, OverFile>
-    requires free { IsFree store pass }
-    requires parts { pass.parts ≡ 65536 }
-    ensures free { IsFree result.store result.pass }
-    ensures parts { result.pass.parts ≡ 65536 }
-{
-    match renew_store(alloc, store, pass) {
-        Ok(renewed) => renewed,
-        Err(_) => rt.panic("the store isn't renewed"),
-    }
 }
 
 /// The leaves of a rotation.
@@ -245,7 +224,8 @@ pub(crate) enum Leaves {
     Anew,
 }
 
-pub(crate) fn rotate<I: Index, D: LogDisk>(
+pub(crate) fn rotate<I: Index, D: LogDisk, R: Wait>(
+    rt: &R,
     alloc: Global,
     store: Store<I, D, OverFile>,
     pass: Pass<SharedBook<I, D, OverFile>>,
@@ -258,13 +238,13 @@ pub(crate) fn rotate<I: Index, D: LogDisk>(
     ensures parts { IfOk result (λ r. r.pass.parts ≡ 65536) }
 {
     match leaves {
-        Leaves::AsTheyAre => rotate_store(alloc, store, pass, spare),
-        Leaves::Anew => rotate_anew(alloc, store, pass, spare),
+        Leaves::AsTheyAre => rotate_store(rt, alloc, store, pass, spare),
+        Leaves::Anew => rotate_anew(rt, alloc, store, pass, spare),
     }
 }
 
-pub(crate) fn rotated<I: Index, D: LogDisk>(
-    rt: &impl Abort,
+pub(crate) fn rotated<I: Index, D: LogDisk, R: Wait + Abort>(
+    rt: &R,
     alloc: Global,
     store: Store<I, D, OverFile>,
     pass: Pass<SharedBook<I, D, OverFile>>,
@@ -276,7 +256,7 @@ pub(crate) fn rotated<I: Index, D: LogDisk>(
     ensures free { IsFree result.store result.pass }
     ensures parts { result.pass.parts ≡ 65536 }
 {
-    match rotate(alloc, store, pass, spare, leaves) {
+    match rotate(rt, alloc, store, pass, spare, leaves) {
         Ok(rotated) => rotated,
         Err(_) => rt.panic("the store isn't rotated"),
     }
@@ -316,39 +296,14 @@ pub(crate) fn expect_either<R: Wait + Abort>(
     expect_in(rt, alloc, two, one, (Which::Second, wanted));
 }
 
-// Fills a store, and continues with it renewed. Returns how many entries each of the two had, and the drive.
-fn fill_and_renew<I: Index, D: LogDisk, R: Wait + Abort>(
-    rt: &R,
-    alloc: Global,
-    disk: D,
-) -> ([usize; 2], D) {
-    let (store, pass) = filled::<I, D, R>(rt, alloc, disk);
-    let Renewed {
-        store,
-        pass,
-        entries,
-    } = renewed(rt, alloc, store, pass);
-    let pass = go_on(rt, alloc, &store, pass);
-    let (more, disk) = close(rt, store, pass);
-    ([entries.as_slice().len(), more], disk)
-}
-
 fn is_found_again<R: Wait + Abort>(rt: &R, alloc: Global) {
     let disk = expect_found(rt, alloc, disk_with(rt, alloc, &[]), NOTHING);
     expect_bytes(rt, alloc, &disk, EMPTY);
     let (store, pass) = filled::<FlatIndex, MemDisk, R>(rt, alloc, disk);
-    let (entries, disk) = close(rt, store, pass);
-    assert_same!(rt; entries, 4);
+    let disk = close(rt, store, pass);
     expect_bytes(rt, alloc, &disk, FILLED);
     let disk = expect_found(rt, alloc, disk, (2, Some(20), 4, FIRST_TWO));
     expect_bytes(rt, alloc, &disk, FILLED);
-}
-
-fn is_found_behind_a_renewal<R: Wait + Abort>(rt: &R, alloc: Global) {
-    let disk = disk_with(rt, alloc, EMPTY);
-    let (entries, disk) = fill_and_renew::<FlatIndex, MemDisk, R>(rt, alloc, disk);
-    assert_same!(rt; entries, [4, 1]);
-    expect_found(rt, alloc, disk, (3, Some(30), 5, FIRST_TWO_AND_FOURTH));
 }
 
 // Why no store is opened over a file, and its drive.
@@ -422,11 +377,6 @@ fn expect_refused_as(
 #[test]
 fn a_store_is_opened_with_what_its_file_was_closed_with(rt: HostRuntime) {
     is_found_again(&rt, rt.alloc());
-}
-
-#[test]
-fn a_store_is_opened_with_all_that_renewed_ones_left(rt: HostRuntime) {
-    is_found_behind_a_renewal(&rt, rt.alloc());
 }
 
 #[test]

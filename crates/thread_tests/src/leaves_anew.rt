@@ -77,8 +77,8 @@ fn opened<I: Index, D: LogDisk>(rt: &impl Abort, alloc: Global, disk: D) -> Open
 }
 
 // Rotates a store, and ends it. Returns its drive, and that of its first file.
-fn rotate_and_close<I: Index, D: LogDisk>(
-    rt: &impl Abort,
+fn rotate_and_close<I: Index, D: LogDisk, R: Wait + Abort>(
+    rt: &R,
     alloc: Global,
     opened: Open<I, D>,
     spare: D,
@@ -88,13 +88,8 @@ fn rotate_and_close<I: Index, D: LogDisk>(
     requires parts { opened.1.parts ≡ 65536 }
 {
     let (store, pass) = opened;
-    let Rotated {
-        store,
-        pass,
-        entries: _,
-        spare,
-    } = rotated(rt, alloc, store, pass, spare, leaves);
-    let (_, disk) = close(rt, store, pass);
+    let Rotated { store, pass, spare } = rotated(rt, alloc, store, pass, spare, leaves);
+    let disk = close(rt, store, pass);
     (disk, spare)
 }
 

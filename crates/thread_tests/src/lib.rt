@@ -5,7 +5,8 @@
 //! - the verbs of a client, its teams and its views;
 //! - the objects of a store;
 //! - the texts of refused calls;
-//! - a store that is renewed, and stores over files, also when they continue over a second file.
+//! - stores over files, also when they continue over a second file or are refused;
+//! - a store in memory that goes on past the entries that a list takes.
 //!
 //! Not here: what can go wrong around the top call (`run_tests`), and the worked values of single crates
 //! (`crate_tests`).
@@ -49,6 +50,8 @@ mod legal;
 #[cfg(test)]
 mod logs;
 #[cfg(test)]
+mod many_calls;
+#[cfg(test)]
 mod many_objects;
 #[cfg(test)]
 mod meetings;
@@ -65,7 +68,7 @@ mod passes;
 #[cfg(test)]
 mod points;
 #[cfg(test)]
-mod renewals;
+mod refusals;
 #[cfg(test)]
 mod rotations;
 #[cfg(test)]

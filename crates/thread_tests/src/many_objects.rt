@@ -10,6 +10,7 @@ use flat_index::FlatIndex;
 use index_layer::Index;
 use std::alloc::Global;
 use std::process::Abort;
+use std::sync::Wait;
 use store_file::{OpenedStore, Rotated, open_store};
 
 const MANY: u32 = 70_000;
@@ -59,8 +60,8 @@ fn opened<I: Index, D: LogDisk>(rt: &impl Abort, alloc: Global, disk: D) -> (Ope
 
 // Rotates a store over this drive to that one, closes it, and opens the second file. Returns how many objects there
 // are.
-fn found_after<I: Index, D: LogDisk>(
-    rt: &impl Abort,
+fn found_after<I: Index, D: LogDisk, R: Wait + Abort>(
+    rt: &R,
     alloc: Global,
     disk: D,
     spare: D,
@@ -70,12 +71,11 @@ fn found_after<I: Index, D: LogDisk>(
     let Rotated {
         store,
         pass,
-        entries: _,
         spare: _,
     } = rotated(rt, alloc, store, pass, spare, leaves);
-    let (_, disk) = close(rt, store, pass);
+    let disk = close(rt, store, pass);
     let ((store, pass), points) = opened::<I, D>(rt, alloc, disk);
-    let _ = close(rt, store, pass);
+    let _disk = close(rt, store, pass);
     points
 }
 
@@ -85,7 +85,7 @@ fn a_rotation_takes_seventy_thousand_objects_over(rt: HostRuntime) {
         let alloc = rt.alloc();
         let spare = disk_with_room(&rt, alloc, Vec::new(alloc));
         let disk = disk_of_many(&rt, alloc);
-        let points = found_after::<FlatIndex, MemDisk>(&rt, alloc, disk, spare, leaves);
+        let points = found_after::<FlatIndex, MemDisk, _>(&rt, alloc, disk, spare, leaves);
         assert_same!(rt; points, 70_000);
     }
 }

@@ -1,5 +1,4 @@
-//! Stores as one value: what one has, a second session, a client that is lent, and stores over files that are renewed,
-//! rotated and resumed.
+//! Stores as one value: what one has, a second session, a client that is lent, and stores over files that are rotated.
 ghost use Rattle.std.specs.Prelude.{◌≡◌};
 ghost use Rattle.pisrakun.specs.Caller.{Keeps};
 
@@ -8,10 +7,11 @@ use disk_mem::MemDisk;
 use disk_trait::LogDisk;
 use flat_index::FlatIndex;
 use pisrakun::{
-    Client, Entry, Errand, FileStore, Found, Index, MOST_EVENTS, MemoryStore, NotRotated,
-    ObjectStore, Point, Region, Room, RotateCause, RotatedStore, Start, Status,
+    Book, Client, Entry, Errand, FileStore, Found, Index, MemoryStore, NoDrive, ObjectStore, Point,
+    Region, Room, RotatedStore, Start, Status, Store,
 };
 use std::alloc::Global;
+use std::marker::Brand;
 use std::process::Abort;
 use std::sync::Wait;
 
@@ -47,13 +47,16 @@ fn look<I: Index, D: LogDisk, O: Start, R: Wait>(
     (len, inside, store.status(rt).ok())
 }
 
+// How many entries a history takes whose list isn't kept.
+const MOST_ENTRIES: u64 = 1 << 60;
+
 fn status(objects: u64, latest: Option<u64>, entries: u64) -> Option<Status> {
     Some(Status {
         objects,
         latest,
         records: None,
         room: Room {
-            entries: MOST_EVENTS.saturating_sub(entries),
+            entries: MOST_ENTRIES.saturating_sub(entries),
             records: None,
         },
     })
@@ -84,6 +87,17 @@ fn call_of(entry: &Entry) -> Option<(u8, u32)> {
     }
 }
 
+// A store over a book that keeps the list of its entries.
+fn listing_store<I: Index>(rt: &impl Abort, alloc: Global) -> MemoryStore<I> {
+    let Ok(book) = Book::<I, NoDrive>::fresh(alloc, 4) else {
+        rt.panic("no book is made")
+    };
+    let Ok((store, pass)) = Store::<I, NoDrive, Brand>::new(alloc, book) else {
+        rt.panic("no store is made")
+    };
+    ObjectStore::from_parts(alloc, store, pass)
+}
+
 // Calls of the store, of a session, and of the store again. Returns the places of the last ones of both.
 fn call_in_two_sessions<I: Index, R: Wait>(rt: &R, store: &mut MemoryStore<I>) -> (u64, u64) {
     let _ = store.put(rt, 1, Point { x: 3, y: 5 }, 10);
@@ -97,9 +111,10 @@ fn call_in_two_sessions<I: Index, R: Wait>(rt: &R, store: &mut MemoryStore<I>) -
 const CALLS: [Option<(u8, u32)>; 3] = [Some((0, 0)), Some((9, 0)), Some((0, 1))];
 
 fn has_two_sessions<I: Index, R: Wait + Abort>(rt: &R, alloc: Global) {
-    let mut store = memory_store::<I>(rt, alloc);
+    let mut store = listing_store::<I>(rt, alloc);
     let places = call_in_two_sessions(rt, &mut store);
-    let entries = store.close();
+    let (store, pass) = store.into_parts();
+    let entries = store.close(pass).into_parts().entries;
     let calls = entries.as_slice().iter().map(call_of);
     assert_is!(rt; calls.eq(CALLS.iter().copied()));
     assert_same!(rt; places, (2, 3));
@@ -140,24 +155,6 @@ fn a_client_is_lent_and_splits_off_another(rt: HostRuntime) {
     assert_same!(rt; told, (true, Some(1)));
 }
 
-// Renews a store in memory. Returns how many entries it had, how many objects it has, and the place of its next call.
-fn renews<I: Index, R: Wait + Abort>(rt: &R, alloc: Global) -> (usize, Option<u64>, u64) {
-    let mut store = memory_store::<I>(rt, alloc);
-    put_three(rt, &mut store);
-    let Ok((mut store, entries)) = store.renew() else {
-        rt.panic("the store isn't renewed")
-    };
-    let _ = store.find(rt, 1);
-    let told = (entries.as_slice().len(), store.len(rt).ok(), store.place());
-    store.close();
-    told
-}
-
-#[test]
-fn a_store_in_memory_is_renewed(rt: HostRuntime) {
-    assert_same!(rt; renews::<FlatIndex, _>(&rt, rt.alloc()), (3, Some(3), 1));
-}
-
 // A store over the log on a drive, and what was found there.
 fn file_store<I: Index, D: LogDisk>(
     rt: &impl Abort,
@@ -170,68 +167,6 @@ fn file_store<I: Index, D: LogDisk>(
     opened
 }
 
-const ONE_OBJECT: Found = Found {
-    objects: 1,
-    latest: Some(10),
-    records: 1,
-};
-
-// Why a store isn't rotated, and the same store over its own file, if it can continue there.
-fn resume<I: Index, D: LogDisk>(
-    alloc: Global,
-    store: FileStore<I, D>,
-    spare: D,
-) -> Option<(RotateCause, FileStore<I, D>)> {
-    match store.rotate(spare) {
-        Ok(
-            RotatedStore {
-                store,
-                spare: _,
-                entries: _,
-            },
-        ) => {
-            store.close();
-            None
-        }
-        Err(
-            NotRotated::Kept {
-                book,
-                spare: _,
-                cause,
-            },
-        ) => match FileStore::resume(alloc, book) {
-            Ok((store, _)) => Some((cause, store)),
-            Err(_) => None,
-        },
-        Err(_) => None,
-    }
-}
-
-// Tries to rotate into a file in use, and puts another object into the first file.
-fn resumes<I: Index, D: LogDisk, R: Wait + Abort>(
-    rt: &R,
-    alloc: Global,
-    disk: D,
-    spare: D,
-) -> (Found, RotateCause, D) {
-    let (store, found) = file_store::<I, D>(rt, alloc, disk);
-    let Some((cause, mut store)) = resume(alloc, store, spare) else {
-        rt.panic("the store isn't resumed")
-    };
-    let _ = store.put(rt, 4, Point { x: 7, y: 7 }, 30);
-    (found, cause, store.close().disk)
-}
-
-#[test]
-fn a_store_continues_over_its_file_after_a_refused_rotation(rt: HostRuntime) {
-    let disk = disk_with(&rt, rt.alloc(), &[HEADER, PUT_1, END]);
-    let spare = disk_with(&rt, rt.alloc(), &[HEADER, PUT_4, END]);
-    let told = resumes::<FlatIndex, MemDisk, _>(&rt, rt.alloc(), disk, spare);
-    let (found, cause, disk) = told;
-    assert_same!(rt; (found, cause), (ONE_OBJECT, RotateCause::InUse { len: 49 }));
-    expect_bytes(&rt, rt.alloc(), &disk, &[HEADER, PUT_1, PUT_4, END]);
-}
-
 // Rotates a store into another file, with new leaves, and puts an object there. Returns both drives.
 fn rotates<I: Index, D: LogDisk, R: Wait + Abort>(
     rt: &R,
@@ -240,15 +175,9 @@ fn rotates<I: Index, D: LogDisk, R: Wait + Abort>(
     second: D,
 ) -> (D, D) {
     let (store, _) = file_store::<I, D>(rt, alloc, first);
-    let Ok(
-        RotatedStore {
-            mut store,
-            spare,
-            entries: _,
-        },
-    ) = store.rotate_anew(second)
-    else {
-        rt.panic("the store isn't rotated")
+    let (mut store, spare) = match store.rotate_anew(rt, second) {
+        Ok(RotatedStore { store, spare }) => (store, spare),
+        _ => rt.panic("the store isn't rotated"),
     };
     let _ = store.put(rt, 4, Point { x: 7, y: 7 }, 30);
     (spare, store.close().disk)

@@ -1,8 +1,4 @@
 //! Stores that continue over a second file, also when a drive fails or a crash comes.
-ghost use Rattle.std.specs.Prelude.{◌≡◌, true, is_some};
-ghost use Rattle.sessions.specs.Shared.{HasWorld};
-ghost use Rattle.store_client.specs.Caller.{IsFree};
-
 use crate::files::{
     FIRST_TWO, FIRST_TWO_AND_FOURTH, Leaves, close, expect_either, expect_in, filled, found_in,
     go_on, open_one, rotate, rotated,
@@ -11,21 +7,16 @@ use crate::logs::{
     ANEW, EMPTY, END, FILLED, GONE_ON, HEADER, PUT_1, PUT_2, PUT_3, PUT_4, REMOVE_3, UNSET_1,
     disk_of, disk_with, expect_bytes,
 };
-use commit_book::Book;
 use disk_mem::{DiskCall, Fail, MemDisk};
 use disk_trait::LogDisk;
 use flat_index::FlatIndex;
 use index_layer::Index;
-use sessions::Renewed;
 use std::alloc::Global;
 use std::process::Abort;
 use std::sync::Wait;
-use store_file::{
-    NotRotated, OpenedEither, OverFile, RotateCause, Rotated, Which, renew_book, rotate_store,
-};
+use store_file::{NotRotated, OpenedEither, RotateCause, Rotated, Which};
 
-// Fills a store, and rotates it. If it continues, it makes one put. Returns how many entries each of the two had, and
-// both drives, that of the store first.
+// Fills a store, and rotates it. If it continues, it makes one put. Returns both drives, that of the store first.
 fn fill_and_rotate<I: Index, D: LogDisk, R: Wait + Abort>(
     rt: &R,
     alloc: Global,
@@ -33,21 +24,15 @@ fn fill_and_rotate<I: Index, D: LogDisk, R: Wait + Abort>(
     spare: D,
     leaves: Leaves,
     goes_on: bool,
-) -> ([usize; 2], D, D) {
+) -> (D, D) {
     let (store, pass) = filled::<I, D, R>(rt, alloc, disk);
-    let Rotated {
-        store,
-        pass,
-        entries,
-        spare,
-    } = rotated(rt, alloc, store, pass, spare, leaves);
+    let Rotated { store, pass, spare } = rotated(rt, alloc, store, pass, spare, leaves);
     let pass = if goes_on {
         go_on(rt, alloc, &store, pass)
     } else {
         pass
     };
-    let (more, disk) = close(rt, store, pass);
-    ([entries.as_slice().len(), more], disk, spare)
+    (close(rt, store, pass), spare)
 }
 
 // Opens either file, and rotates the store into the other one. Returns which one it was, and both drives, that of the
@@ -67,22 +52,13 @@ fn open_and_rotate<I: Index, D: LogDisk, R: Wait + Abort>(
         spare,
         which,
     } = open_one::<I, D>(rt, alloc, first, second);
-    let Rotated {
-        store,
-        pass,
-        entries: _,
-        spare,
-    } = rotated(rt, alloc, store, pass, spare, Leaves::AsTheyAre);
-    let (_, disk) = close(rt, store, pass);
-    (which, disk, spare)
+    let Rotated { store, pass, spare } = rotated(rt, alloc, store, pass, spare, Leaves::AsTheyAre);
+    (which, close(rt, store, pass), spare)
 }
 
 fn rotates_over_and_back<R: Wait + Abort>(rt: &R, alloc: Global, leaves: Leaves) {
     let (one, two) = (disk_with(rt, alloc, &[]), disk_with(rt, alloc, &[]));
-    let (entries, two, one) = fill_and_rotate::<FlatIndex, MemDisk, R>(
-        rt, alloc, one, two, leaves, false,
-    );
-    assert_same!(rt; entries, [4, 0]);
+    let (two, one) = fill_and_rotate::<FlatIndex, MemDisk, R>(rt, alloc, one, two, leaves, false);
     expect_bytes(rt, alloc, &two, ANEW);
     expect_bytes(rt, alloc, &one, EMPTY);
     let (which, one, two) = open_and_rotate::<FlatIndex, MemDisk, R>(rt, alloc, one, two);
@@ -93,10 +69,7 @@ fn rotates_over_and_back<R: Wait + Abort>(rt: &R, alloc: Global, leaves: Leaves)
 
 fn goes_on_behind_a_rotation<R: Wait + Abort>(rt: &R, alloc: Global, leaves: Leaves) {
     let (one, two) = (disk_with(rt, alloc, &[]), disk_with(rt, alloc, &[]));
-    let (entries, two, one) = fill_and_rotate::<FlatIndex, MemDisk, R>(
-        rt, alloc, one, two, leaves, true,
-    );
-    assert_same!(rt; entries, [4, 1]);
+    let (two, one) = fill_and_rotate::<FlatIndex, MemDisk, R>(rt, alloc, one, two, leaves, true);
     expect_bytes(rt, alloc, &two, GONE_ON);
     expect_bytes(rt, alloc, &one, EMPTY);
     let found = (3, Some(30), 3, FIRST_TWO_AND_FOURTH);
@@ -117,79 +90,44 @@ const ON_SPARE: &[(DiskCall, u64, Which, u64)] = &[
     (DiskCall::Sync, 3, Which::Second, 2),
 ];
 
-// Both drives of a rotation whose second drive fails, that of the book first.
+// Both drives of a rotation whose second drive fails, that of the store first.
 fn unsure<I: Index, D: LogDisk, R: Wait + Abort>(
     rt: &R,
     alloc: Global,
     disk: D,
     spare: D,
     leaves: Leaves,
-) -> (Option<D>, D) {
+) -> (D, D) {
     let (store, pass) = filled::<I, D, R>(rt, alloc, disk);
-    match rotate(alloc, store, pass, spare, leaves) {
-        Err(NotRotated::Unsure { book, spare }) => (book.into_parts().disk, spare),
+    match rotate(rt, alloc, store, pass, spare, leaves) {
+        Err(NotRotated::Unsure { disk, spare }) => (disk, spare),
         _ => rt.panic("the second drive doesn't fail"),
     }
 }
 
-// Both drives of a rotation into a file that is in use, and why there is none.
+// Rotates a store into a file that is in use, so the same store goes on, with one put. Returns why it isn't rotated, and
+// both drives, that of the store first.
 fn kept<I: Index, D: LogDisk, R: Wait + Abort>(
     rt: &R,
     alloc: Global,
     disk: D,
     spare: D,
     leaves: Leaves,
-) -> (RotateCause, Option<D>, D) {
+) -> (RotateCause, D, D) {
     let (store, pass) = filled::<I, D, R>(rt, alloc, disk);
-    match rotate(alloc, store, pass, spare, leaves) {
-        Err(NotRotated::Kept { book, spare, cause }) => (cause, book.into_parts().disk, spare),
-        _ => rt.panic("the book isn't kept"),
-    }
-}
-
-fn book_renewed<I: Index, D: LogDisk>(
-    rt: &impl Abort,
-    alloc: Global,
-    book: Book<I, D>,
-) -> Renewed<I, D, OverFile>
-    requires world { HasWorld book }
-    requires logged { is_some book.log ≡ true }
-    ensures free { IsFree result.store result.pass }
-    ensures parts { result.pass.parts ≡ 65536 }
-{
-    match renew_book(alloc, book) {
-        Ok(renewed) => renewed,
-        Err(_) => rt.panic("the book isn't renewed"),
-    }
-}
-
-// Rotates a store into a file that is in use, so the store continues over its own file, with one put. Returns how many
-// entries the book and then the store had, and both drives, that of the store first.
-fn keep_and_renew<I: Index, D: LogDisk, R: Wait + Abort>(
-    rt: &R,
-    alloc: Global,
-    disk: D,
-    spare: D,
-) -> ([usize; 2], D, D) {
-    let (store, pass) = filled::<I, D, R>(rt, alloc, disk);
-    match rotate_store(alloc, store, pass, spare) {
+    match rotate(rt, alloc, store, pass, spare, leaves) {
         Err(
             NotRotated::Kept {
-                book,
-                spare,
-                cause: _,
-            },
-        ) => {
-            let Renewed {
                 store,
                 pass,
-                entries,
-            } = book_renewed(rt, alloc, book);
+                spare,
+                cause,
+            },
+        ) => {
             let pass = go_on(rt, alloc, &store, pass);
-            let (more, disk) = close(rt, store, pass);
-            ([entries.as_slice().len(), more], disk, spare)
+            (cause, close(rt, store, pass), spare)
         }
-        _ => rt.panic("the book isn't kept"),
+        _ => rt.panic("the store isn't kept"),
     }
 }
 
@@ -239,9 +177,7 @@ const IN_ALL: u64 = 6;
 
 fn keeps_its_objects<R: Wait + Abort>(rt: &R, alloc: Global, leaves: Leaves) {
     let (one, two) = (disk_with(rt, alloc, &[]), disk_with(rt, alloc, &[]));
-    let (_, two, one) = fill_and_rotate::<FlatIndex, MemDisk, R>(
-        rt, alloc, one, two, leaves, false,
-    );
+    let (two, one) = fill_and_rotate::<FlatIndex, MemDisk, R>(rt, alloc, one, two, leaves, false);
     assert_same!(rt; [one.moments(), two.moments()], [BEHIND, IN_ALL]);
     for moment in 0..7 {
         expect_after_crashes(rt, alloc, (&one, BEFORE), (&two, moment));
@@ -251,7 +187,7 @@ fn keeps_its_objects<R: Wait + Abort>(rt: &R, alloc: Global, leaves: Leaves) {
     }
 }
 
-fn keeps_its_book<R: Wait + Abort>(
+fn keeps_its_log<R: Wait + Abort>(
     rt: &R,
     alloc: Global,
     leaves: Leaves,
@@ -261,7 +197,6 @@ fn keeps_its_book<R: Wait + Abort>(
     let one = disk_with(rt, alloc, &[]);
     let two = disk_of(rt, alloc, &[], &[failing]);
     let (one, two) = unsure::<FlatIndex, MemDisk, R>(rt, alloc, one, two, leaves);
-    let one = one.expect(rt, "the book has no log");
     expect_bytes(rt, alloc, &one, FILLED);
     expect_after_crashes(rt, alloc, (&one, one.moments()), (&two, two.moments()));
     let (which, records) = wanted;
@@ -269,12 +204,14 @@ fn keeps_its_book<R: Wait + Abort>(
     expect_in(rt, alloc, one, two, (which, found));
 }
 
+// The log of the first file, with one put more.
+const FILLED_AND_ON: &[&[u8]] = &[HEADER, PUT_1, PUT_2, PUT_3, REMOVE_3, PUT_4, END];
+
 fn leaves_a_file_in_use<R: Wait + Abort>(rt: &R, alloc: Global, leaves: Leaves) {
     let (one, two) = (disk_with(rt, alloc, &[]), disk_with(rt, alloc, GONE_ON));
     let (cause, one, two) = kept::<FlatIndex, MemDisk, R>(rt, alloc, one, two, leaves);
-    let one = one.expect(rt, "the book has no log");
     assert_same!(rt; cause, RotateCause::InUse { len: 113 });
-    expect_bytes(rt, alloc, &one, FILLED);
+    expect_bytes(rt, alloc, &one, FILLED_AND_ON);
     expect_bytes(rt, alloc, &two, GONE_ON);
     assert_same!(rt; two.moments(), 0);
 }
@@ -288,19 +225,17 @@ const ON_FIRST: &[(DiskCall, u64)] = &[
     (DiskCall::Sync, 12),
 ];
 
-// Both drives of a rotation whose first drive fails, that of the book last, and how many entries were returned.
+// Both drives of a rotation whose first drive fails, that of the book last.
 fn uncleared<I: Index, D: LogDisk, R: Wait + Abort>(
     rt: &R,
     alloc: Global,
     disk: D,
     spare: D,
     leaves: Leaves,
-) -> (usize, D, Option<D>) {
+) -> (D, Option<D>) {
     let (store, pass) = filled::<I, D, R>(rt, alloc, disk);
-    match rotate(alloc, store, pass, spare, leaves) {
-        Err(NotRotated::Uncleared { book, entries, old }) => {
-            (entries.as_slice().len(), old, book.into_parts().disk)
-        }
+    match rotate(rt, alloc, store, pass, spare, leaves) {
+        Err(NotRotated::Uncleared { book, old }) => (old, book.into_parts().disk),
         _ => rt.panic("the first file is cleared"),
     }
 }
@@ -308,9 +243,8 @@ fn uncleared<I: Index, D: LogDisk, R: Wait + Abort>(
 fn has_gone_on<R: Wait + Abort>(rt: &R, alloc: Global, leaves: Leaves, failing: Fail) {
     let one = disk_of(rt, alloc, &[], &[failing]);
     let two = disk_with(rt, alloc, &[]);
-    let (entries, one, two) = uncleared::<FlatIndex, MemDisk, R>(rt, alloc, one, two, leaves);
+    let (one, two) = uncleared::<FlatIndex, MemDisk, R>(rt, alloc, one, two, leaves);
     let two = two.expect(rt, "the book has no log");
-    assert_same!(rt; entries, 4);
     expect_bytes(rt, alloc, &two, ANEW);
     expect_after_crashes(rt, alloc, (&one, one.moments()), (&two, two.moments()));
     expect_in(
@@ -342,33 +276,15 @@ fn a_second_drive_that_fails_leaves_the_first_log(rt: HostRuntime) {
             number: *number,
         };
         let wanted = (*which, *records);
-        keeps_its_book(&rt, rt.alloc(), Leaves::AsTheyAre, failing, wanted);
-        keeps_its_book(&rt, rt.alloc(), Leaves::Anew, failing, wanted);
+        keeps_its_log(&rt, rt.alloc(), Leaves::AsTheyAre, failing, wanted);
+        keeps_its_log(&rt, rt.alloc(), Leaves::Anew, failing, wanted);
     }
 }
 
 #[test]
-fn a_second_file_in_use_is_left_alone(rt: HostRuntime) {
+fn a_store_goes_on_if_the_second_file_is_in_use(rt: HostRuntime) {
     leaves_a_file_in_use(&rt, rt.alloc(), Leaves::AsTheyAre);
     leaves_a_file_in_use(&rt, rt.alloc(), Leaves::Anew);
-}
-
-fn goes_on_over_its_own_file<R: Wait + Abort>(rt: &R, alloc: Global) {
-    let (one, two) = (disk_with(rt, alloc, &[]), disk_with(rt, alloc, GONE_ON));
-    let (entries, one, two) = keep_and_renew::<FlatIndex, MemDisk, R>(rt, alloc, one, two);
-    assert_same!(rt; entries, [4, 1]);
-    expect_bytes(
-        rt,
-        alloc,
-        &one,
-        &[HEADER, PUT_1, PUT_2, PUT_3, REMOVE_3, PUT_4, END],
-    );
-    expect_bytes(rt, alloc, &two, GONE_ON);
-}
-
-#[test]
-fn a_book_that_is_kept_goes_on_over_its_own_file(rt: HostRuntime) {
-    goes_on_over_its_own_file(&rt, rt.alloc());
 }
 
 #[test]
