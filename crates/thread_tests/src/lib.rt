@@ -82,6 +82,8 @@ mod turns;
 #[cfg(test)]
 mod versions;
 #[cfg(test)]
+mod view_threads;
+#[cfg(test)]
 mod views;
 #[cfg(test)]
 mod worlds;
