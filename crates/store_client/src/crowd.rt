@@ -86,7 +86,7 @@ impl<'s, I: Index, D: LogDisk, O: Start> Client<'s, I, D, O> {
 }
 
 // The session of a worker after so many others. The sessions count from `first`.
-fn session_behind(first: u8, others: usize) -> u8
+pub(crate) fn session_behind(first: u8, others: usize) -> u8
     ensures { result ≡ session_at first others }
 {
     first.wrapping_add((others % 256) as u8)

@@ -11,6 +11,7 @@
 //! | `world`, `view` | a copy of all objects, or a view without a copy |
 //! | `another`, `join`, `learn` | share the store with other callers |
 //! | `work_all` | lets a team work at once, each in its own thread (`TeamDid`) |
+//! | `host` | lets a crew work at once, by clients that it takes from a `Pool` and gives back (`HasHosted`) |
 //!
 //! No call changes a client's store, its origin, its parts or its session (`Keeps`). So a caller that has joined all
 //! clients again may rotate or close the store. The limits of a store are constants here.
@@ -24,7 +25,10 @@ mod batches;
 mod changes;
 mod client;
 mod crowd;
+mod guest;
 mod limits;
+mod pool;
+mod service;
 mod shares;
 mod verbs;
 
@@ -36,8 +40,11 @@ pub use batch::{Batch, MOST_BATCH, NotAdded};
 pub use batches::{Replies, more_splits, rows_of, split_some};
 pub use client::{Client, Reply, try_split};
 pub use crowd::{Work, Worker, at_once};
+pub use guest::Guest;
 pub use limits::{
     MOST_CELLS, MOST_CELLS_TO_BEGIN, MOST_CLIENTS, MOST_LISTED, MOST_MEMBERS, MOST_NEAREST,
     has_no_room,
 };
 pub use plain_list::Change;
+pub use pool::{Lender, Pool};
+pub use service::Service;
