@@ -8,6 +8,7 @@
 //! | make many changes in one step | `apply`, with a `Batch` |
 //! | see what it has, and how much more it takes | `len`, `count`, `room`, `status` |
 //! | let threads share it | `work_all`, and a `Work` for each thread, which calls by a `Client` |
+//! | let threads take clients whenever they like | `pool`, and a `Service` for each thread, which calls by a `Guest` |
 //! | ask several questions of one moment | `view`, which returns a `View` |
 //! | continue before its log is full | `rotate` |
 //! | watch fences | `Fences`, `Tally`, `Change` |
@@ -34,42 +35,109 @@ mod memory;
 mod memory_store;
 mod no_drive;
 mod object_store;
+mod pool;
 mod session;
 mod team;
 mod verbs;
 
 pub use book_lock::Pass;
 pub use browse_query::Browse;
-pub use commit_book::{Book, BookFault, Room};
-pub use disk_file::{FileDisk, Reason};
+pub use commit_book::Book;
+pub use commit_book::BookFault;
+pub use commit_book::Room;
+pub use disk_file::FileDisk;
+pub use disk_file::Reason;
 pub use disk_trait::LogDisk;
-pub use fence_watch::{
-    AlongFault, BadFences, Crossing, Event, Fence, FenceCount, Fences, MOST_FENCE_EVENTS,
-    MOST_FENCES, Tally, WatchFault,
-};
-pub use file_store::{FileStore, Found, NotRotatedStore, OpenedPair, RotatedStore};
+pub use fence_watch::AlongFault;
+pub use fence_watch::BadFences;
+pub use fence_watch::Crossing;
+pub use fence_watch::Event;
+pub use fence_watch::Fence;
+pub use fence_watch::FenceCount;
+pub use fence_watch::Fences;
+pub use fence_watch::MOST_FENCE_EVENTS;
+pub use fence_watch::MOST_FENCES;
+pub use fence_watch::Tally;
+pub use fence_watch::WatchFault;
+pub use file_store::FileStore;
+pub use file_store::Found;
+pub use file_store::NotRotatedStore;
+pub use file_store::OpenedPair;
+pub use file_store::RotatedStore;
 pub use index_layer::Index;
-pub use index_view::{View, Visit};
+pub use index_view::View;
+pub use index_view::Visit;
 pub use io_edge::OpenGate;
 pub use kd_trie::KdTrie;
 pub use label::Label;
 pub use lending::Errand;
 pub use looks::Status;
-pub use memory::{InMemory, NotInMemory, in_memory};
+pub use memory::InMemory;
+pub use memory::NotInMemory;
+pub use memory::in_memory;
 pub use memory_store::MemoryStore;
 pub use no_drive::NoDrive;
 pub use object_store::ObjectStore;
-pub use plain_list::{Answer, Change, Entries, Entry, Member, Op, PlacedList, Stamped, World};
+pub use plain_list::Answer;
+pub use plain_list::Change;
+pub use plain_list::Entries;
+pub use plain_list::Entry;
+pub use plain_list::Member;
+pub use plain_list::Op;
+pub use plain_list::PlacedList;
+pub use plain_list::Stamped;
+pub use plain_list::World;
 pub use quad_trie::QuadTrie;
 pub use session::Session;
-pub use sessions::{CallFault, Settled, SharedBook, Split, Start, Store};
-pub use store_client::{
-    Batch, Client, Listed, MOST_BATCH, MOST_CELLS, MOST_CLIENTS, MOST_LISTED, MOST_MEMBERS,
-    MOST_NEAREST, MoveReply, NotAdded, PutReply, Replies, Reply, Report, Work, Worker, at_once,
-};
-pub use store_file::{
-    ClosedStore, EitherCause, LEAST_BUCKET, MOST_BUCKET, NotEither, NotOpened, NotRotated,
-    OpenCause, OpenedEither, OpenedStore, OverFile, RotateCause, Rotated, Which, close_store,
-    open_either, open_store, rotate_anew, rotate_store,
-};
-pub use zorder::{Memory, Name, Placed, Point, Region};
+pub use sessions::CallFault;
+pub use sessions::Settled;
+pub use sessions::SharedBook;
+pub use sessions::Split;
+pub use sessions::Start;
+pub use sessions::Store;
+pub use store_client::Batch;
+pub use store_client::Client;
+pub use store_client::Guest;
+pub use store_client::Lender;
+pub use store_client::Listed;
+pub use store_client::MOST_BATCH;
+pub use store_client::MOST_CELLS;
+pub use store_client::MOST_CLIENTS;
+pub use store_client::MOST_LISTED;
+pub use store_client::MOST_MEMBERS;
+pub use store_client::MOST_NEAREST;
+pub use store_client::MoveReply;
+pub use store_client::NotAdded;
+pub use store_client::Pool;
+pub use store_client::PutReply;
+pub use store_client::Replies;
+pub use store_client::Reply;
+pub use store_client::Report;
+pub use store_client::Service;
+pub use store_client::Work;
+pub use store_client::Worker;
+pub use store_client::at_once;
+pub use store_file::ClosedStore;
+pub use store_file::EitherCause;
+pub use store_file::LEAST_BUCKET;
+pub use store_file::MOST_BUCKET;
+pub use store_file::NotEither;
+pub use store_file::NotOpened;
+pub use store_file::NotRotated;
+pub use store_file::OpenCause;
+pub use store_file::OpenedEither;
+pub use store_file::OpenedStore;
+pub use store_file::OverFile;
+pub use store_file::RotateCause;
+pub use store_file::Rotated;
+pub use store_file::Which;
+pub use store_file::close_store;
+pub use store_file::open_either;
+pub use store_file::open_store;
+pub use store_file::rotate_anew;
+pub use store_file::rotate_store;
+pub use zorder::Memory;
+pub use zorder::Name;
+pub use zorder::Placed;
+pub use zorder::Point;
+pub use zorder::Region;
