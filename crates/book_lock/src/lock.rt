@@ -80,7 +80,14 @@ impl<V: Held> BookLock<V> {
     /// call returns the value.
     pub fn new(alloc: Global, value: V) -> Result<(BookLock<V>, Pass<V>), V>
         requires { V.entries value ≡ [] }
-        ensures lock { IfOk result (λ r. r.1 ≡ record { lock = r.0; seen = []; own = []; origin = V.origin value; parts = all_parts; holds = false }) }
+        ensures lock { IfOk result (λ r. r.1 ≡ record {
+          lock = r.0;
+          seen = [];
+          own = [];
+          origin = V.origin value;
+          parts = all_parts;
+          holds = false;
+        }) }
         ensures back { IfErr result (λ v. v ≡ value) }
     {
         let is_slow = value.is_slow();

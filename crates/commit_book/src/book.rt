@@ -121,7 +121,8 @@ impl<I: Index, D: LogDisk> Book<I, D> {
     /// the list of its entries. `bucket` is 4 to 4,096 rows. If memory runs out, `Err` returns what was opened.
     pub fn opened(alloc: Global, opened: Opened<D>, bucket: u32) -> Result<Book<I, D>, Opened<D>>
         requires { IsOpenedLog D.drive I.WIDTH opened.seen opened.start.value opened.log }
-        ensures opening { IfOk result (λ b. (b.opening ≡ found_state opened.seen) × (b.entries ≡ []) × (b.bucket ≡ bucket) × (b.kept ≡ true)) }
+        ensures opening { IfOk result (λ b. (b.opening ≡ found_state opened.seen) × (b.entries ≡ []) × (b.bucket ≡ bucket)
+            × (b.kept ≡ true)) }
         ensures log { IfOk result (λ b. b.log ≡ Some (first_log opened.log opened.start.value)) }
         ensures back { IfErr result (λ back. back ≡ opened) }
     {

@@ -20,7 +20,8 @@ pub(crate) fn open_file<D: LogDisk>(
     file: &str,
     mut disk: D,
 ) -> Result<OpenedLog<D>, Unmade<D>>
-    ensures opened { IfOk result (λ l. OpensFile file.now (D.drive disk) (D.drive l.opened.start.value) (D.drive l.opened.log.disk) l.width l.opened.seen) }
+    ensures opened { IfOk result (λ l. OpensFile file.now (D.drive disk) (D.drive l.opened.start.value)
+        (D.drive l.opened.log.disk) l.width l.opened.seen) }
     ensures log { IfOk result (λ l. (l.opened.log.cells ≡ l.opened.seen.cells) × (l.opened.log.failed ≡ None)) }
     ensures refused { IfErr result (λ e. IsNotOpened file.now (D.drive disk) (D.drive e.disk) e.why) }
 {

@@ -52,7 +52,8 @@ pub(crate) fn play_and_tell<
 ) -> Told<D>
     requires rows { AreInRows rows.now }
     requires new { IsNewBook book }
-    ensures { EndsBook D.drive I.WIDTH report rows.now book result.history result.status result.disk (K.output sink.old) (K.output sink.new) }
+    ensures { EndsBook D.drive I.WIDTH report rows.now book result.history result.status result.disk (K.output sink.old)
+        (K.output sink.new) }
 {
     let mut book = book;
     book.make_room(rows.len() + rows.len() / ROWS_A_STEP);

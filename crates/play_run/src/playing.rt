@@ -168,7 +168,8 @@ fn over_opened<
     requires log { (opened.log.cells ≡ opened.seen.cells) × (opened.log.failed ≡ None) }
     requires found { IsFound oldest_played I.WIDTH most_played (D.drive opened.start.value) opened.seen }
     requires ready { IsOpened I.WIDTH (found_state opened.seen) (D.drive opened.start.value) (D.drive opened.log.disk) }
-    ensures plays { (file : List ℕ) (disk : D) → OpensFile file (D.drive disk) (D.drive opened.start.value) (D.drive opened.log.disk) I.WIDTH opened.seen
+    ensures plays { (file : List ℕ) (disk : D) → OpensFile file (D.drive disk) (D.drive opened.start.value)
+        (D.drive opened.log.disk) I.WIDTH opened.seen
         → PlaysRows report (Some file) size rows.now (targets K.output D.drive sink.old (record { disk = disk; other = other }))
         (targets K.output D.drive sink.new result.drives) result.status result.history }
     ensures other { result.drives.other ≡ other }

@@ -49,7 +49,14 @@ impl<I: Index, D: LogDisk, O: Start> Store<I, D, O> {
         requires entries { book.entries ≡ [] }
         requires world { IsWorld book.opening.world }
         requires start { StartsAs D.drive O.unlogged O.is book.log }
-        ensures store { IfOk result (λ r. r.1 ≡ record { lock = r.0; seen = []; own = []; origin = origin_of D.drive book; parts = all_parts; holds = false }) }
+        ensures store { IfOk result (λ r. r.1 ≡ record {
+          lock = r.0;
+          seen = [];
+          own = [];
+          origin = origin_of D.drive book;
+          parts = all_parts;
+          holds = false;
+        }) }
         ensures back { IfErr result (λ b. b ≡ book) }
     {
         let shared = SharedBook::of(alloc, book)?;

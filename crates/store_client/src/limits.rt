@@ -23,7 +23,8 @@ pub const MOST_CLIENTS: usize = 65_536;
 
 /// Whether there is too little room for a further split.
 pub fn has_no_room(room: &Room) -> bool
-    ensures { (kept : Bool) (cells : Option ℕ) (events : ℕ) → room.now ≡ room_beside kept cells events → result ≡ is_near kept cells events }
+    ensures { (kept : Bool) (cells : Option ℕ) (events : ℕ) → room.now ≡ room_beside kept cells events
+        → result ≡ is_near kept cells events }
 {
     // For both kinds of history as many entries are left after the last begin of a split.
     let is_log_full = match room.records {

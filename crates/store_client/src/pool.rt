@@ -80,7 +80,8 @@ impl<'s, I: Index, D: LogDisk, O: Start, L: Lender> Pool<'s, I, D, O, L> {
         clients: u16,
     ) -> Option<Pool<'s, I, D, O, L>>
         requires parts { clients < boss.old.pass.parts }
-        requires lender { (boss.old.pass.lock ≡ L.store.lock) × (boss.old.pass.origin ≡ L.store.origin) × IsPrefix L.store.seen boss.old.pass.seen }
+        requires lender { (boss.old.pass.lock ≡ L.store.lock) × (boss.old.pass.origin ≡ L.store.origin)
+            × IsPrefix L.store.seen boss.old.pass.seen }
         ensures opened { IfSome result (λ pool. (pool ≡ clients) × (boss.new ≡ without_parts clients boss.old)) }
         ensures refused { IfNone result (boss.new ≡ boss.old) }
     {

@@ -41,7 +41,8 @@ impl<'s, I: Index + Send, D: LogDisk + Send, O: Start + Send> Client<'s, I, D, O
         crew: &mut [S],
     ) -> Result<(), Memory>
         requires parts { clients < self.old.pass.parts }
-        requires lender { (self.old.pass.lock ≡ L.store.lock) × (self.old.pass.origin ≡ L.store.origin) × IsPrefix L.store.seen self.old.pass.seen }
+        requires lender { (self.old.pass.lock ≡ L.store.lock) × (self.old.pass.origin ≡ L.store.origin)
+            × IsPrefix L.store.seen self.old.pass.seen }
         ensures hosted { HasHosted self.old self.new }
         ensures served { OnOk result (AllServed S.does L.store crew.old crew.new) }
         ensures refused { OnErr result ((crew.new ≡ crew.old) × (self.new ≡ self.old)) }

@@ -205,7 +205,8 @@ fn begin_with<I: Index, D: LogDisk>(content: Content, spare: D) -> Result<Opened
     requires world { IsWorld content.world }
     ensures begun { IfOk result (λ o. BeginsFresh D.drive I.WIDTH spare o.seen o.start.value o.log) }
     ensures seen { IfOk result (λ o. (o.seen.world ≡ content.world) × (o.seen.leaves ≡ content.leaves)) }
-    ensures refused { IfErr result (λ e. NotBegins D.drive I.WIDTH (λ leaves. leaves ≡ content.leaves) None content.world spare e.disk e.cause) }
+    ensures refused { IfErr result (λ e. NotBegins D.drive I.WIDTH
+        (λ leaves. leaves ≡ content.leaves) None content.world spare e.disk e.cause) }
 {
     let width = I::WIDTH;
     let Some(seen) = fresh_seen(content.world, content.leaves, width) else {

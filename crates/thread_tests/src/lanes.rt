@@ -95,7 +95,8 @@ fn run_lanes<I: Index + Send, D: LogDisk + Send, R: Threads + Wait + Sync, G: Ga
     gate: &G,
 )
     requires { (i : ℕ) (d : Lane I D Brand I.Place) → i < length lanes.old → IsReadyLane store.now (slice_index_or lanes.old i d) }
-    ensures { (i : ℕ) (d : Lane I D Brand I.Place) → i < length lanes.old → KeepsPass (slice_index_or lanes.old i d).pass (slice_index_or lanes.new i d).pass }
+    ensures { (i : ℕ) (d : Lane I D Brand I.Place) → i < length lanes.old
+        → KeepsPass (slice_index_or lanes.old i d).pass (slice_index_or lanes.new i d).pass }
 {
     store.run_lanes(rt, alloc, lanes, gate);
 }

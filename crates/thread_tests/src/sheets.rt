@@ -54,7 +54,8 @@ impl Held for Sheet {
 
 impl Sheet {
     fn push(&mut self, entry: Entry) -> bool
-        ensures entries { MatchBool result (self.new.entries.items ≡ self.old.entries.items ++ entry ∷ []) (self.new.entries.items ≡ self.old.entries.items) }
+        ensures entries { MatchBool result
+            (self.new.entries.items ≡ self.old.entries.items ++ entry ∷ []) (self.new.entries.items ≡ self.old.entries.items) }
         ensures same { self.new.bucket ≡ self.old.bucket }
     {
         // Unless `Lost` is named too, the checker can't make its plan for an entry.

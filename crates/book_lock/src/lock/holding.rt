@@ -75,8 +75,12 @@ impl<V: Held> BookLock<V> {
         requires lock { pass.old.lock ≡ self.now }
         requires on { pass.old.holds ≡ true }
         requires origin { V.origin value.now ≡ pass.old.origin }
-        requires entry { (e : Entry) × (rest : List Entry) × (V.entries value.now ≡ pass.old.seen ++ e ∷ rest) × MayNote pass.old.seen pass.old.own e }
-        ensures { pass.new ≡ record pass.old { seen = take (length pass.old.seen + 1) (V.entries value.now); own = pass.old.own ++ length pass.old.seen ∷ [] } }
+        requires entry { (e : Entry) × (rest : List Entry) × (V.entries value.now ≡ pass.old.seen ++ e ∷ rest)
+            × MayNote pass.old.seen pass.old.own e }
+        ensures { pass.new ≡ record pass.old {
+          seen = take (length pass.old.seen + 1) (V.entries value.now);
+          own = pass.old.own ++ length pass.old.seen ∷ [];
+        } }
     {
         // The number of entries fits a word, so the count of the history can't wrap to 0.
         let _events = value.events();

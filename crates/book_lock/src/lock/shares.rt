@@ -70,7 +70,11 @@ impl<V: Held> BookLock<V> {
     pub fn join_pass(&self, into: &mut Pass<V>, other: Pass<V>)
         requires lock { (into.old.lock ≡ self.now) × (other.lock ≡ self.now) }
         requires off { (into.old.holds ≡ false) × (other.holds ≡ false) }
-        ensures joined { into.new ≡ record into.old { seen = longer into.old.seen other.seen; own = merge other.own into.old.own; parts = into.old.parts + other.parts } }
+        ensures joined { into.new ≡ record into.old {
+          seen = longer into.old.seen other.seen;
+          own = merge other.own into.old.own;
+          parts = into.old.parts + other.parts;
+        } }
         ensures begins { IsPrefix into.old.seen into.new.seen × IsPrefix other.seen into.new.seen }
         ensures counts { (p : ℕ) → times p into.new.own ≡ times p into.old.own + times p other.own }
     {

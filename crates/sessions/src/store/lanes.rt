@@ -195,7 +195,8 @@ impl<I: Index + Send, D: LogDisk + Send, O: Start + Send> Store<I, D, O> {
         gate: &G,
     )
         requires ready { (i : ℕ) (d : Lane I D O I.Place) → i < length lanes.old → IsReadyLane self.now (slice_index_or lanes.old i d) }
-        ensures { (i : ℕ) (d : Lane I D O I.Place) → i < length lanes.old → PlaysLane I.WIDTH (slice_index_or lanes.old i d) (slice_index_or lanes.new i d) }
+        ensures { (i : ℕ) (d : Lane I D O I.Place) → i < length lanes.old
+            → PlaysLane I.WIDTH (slice_index_or lanes.old i d) (slice_index_or lanes.new i d) }
     {
         let threads = lanes.len().max(1);
         thread::for_each_mut(

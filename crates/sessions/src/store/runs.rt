@@ -188,7 +188,8 @@ impl<I: Index, D: LogDisk, O: Start> Store<I, D, O> {
         requires out { IsOut D.drive book.old lane.old.pass }
         requires queries { AreQueries i end lane.old.rows.items }
         requires rows { (i ≤ end) × (lane.old.fault ≡ None) × (vec_len lane.old.kept + i ≡ base + end) }
-        requires answers { AnswersIn (world_after lane.old.pass.origin.world lane.old.pass.seen) i end (take base lane.old.kept.items) lane.old }
+        requires answers { AnswersIn (world_after lane.old.pass.origin.world lane.old.pass.seen) i end
+            (take base lane.old.kept.items) lane.old }
         ensures out { IsOut D.drive book.new lane.new.pass }
         ensures notes { NotesRows I.WIDTH i end base lane.old lane.new }
     {
@@ -224,7 +225,8 @@ impl<I: Index, D: LogDisk, O: Start> Store<I, D, O> {
         requires sees { Sees (I.leaves sight.now.index) sight.now.events lane.old.pass }
         requires queries { AreQueries i end lane.old.rows.items }
         requires rows { (i < end) × (lane.old.fault ≡ None) × (vec_len lane.old.kept + i ≡ base + end) }
-        requires answers { AnswersIn (world_after lane.old.pass.origin.world lane.old.pass.seen) i end (take base lane.old.kept.items) lane.old }
+        requires answers { AnswersIn (world_after lane.old.pass.origin.world lane.old.pass.seen) i end
+            (take base lane.old.kept.items) lane.old }
         ensures ends { (start : Lane I D O I.Place) → Stood base start lane.old → RunEnds I.WIDTH i start lane.new result }
         ensures free { lane.new.pass.holds ≡ false }
     {
