@@ -68,6 +68,8 @@ mod passes;
 #[cfg(test)]
 mod points;
 #[cfg(test)]
+mod pools;
+#[cfg(test)]
 mod refusals;
 #[cfg(test)]
 mod rotations;
