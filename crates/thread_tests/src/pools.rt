@@ -1,18 +1,15 @@
 //! Pools: threads that take clients of a store whenever they like, and give them back.
-ghost use Rattle.std.specs.Prelude.{◌≡◌};
-
 use crate::stores::new_store;
 use disk_mem::MemDisk;
 use disk_trait::LogDisk;
 use pisrakun::{
-    Client, Entries, Entry, FileStore, Index, KdTrie, Lender, MemoryStore, NoDrive, ObjectStore,
-    Point, Pool, QuadTrie, RotatedStore, Service, Start,
+    Entries, Entry, FileStore, Index, KdTrie, Lender, MemoryStore, NoDrive, ObjectStore, Point,
+    Pool, QuadTrie, RotatedStore, Service, Start,
 };
 use std::alloc::Global;
-use std::marker::Brand;
 use std::process::Abort;
 use std::sync::Wait;
-use std::thread::{self, Threads};
+use std::thread::Threads;
 
 // How many objects each thread puts. All lie so close together that leaves are split again and again.
 const PUTS: u64 = 40;
@@ -162,55 +159,6 @@ fn a_store_is_rotated_after_its_pool(rt: HostRuntime) {
     let second = empty_disk(&rt, rt.alloc());
     let told = rotates::<KdTrie, MemDisk, _>(&rt, rt.alloc(), first, second);
     assert_same!(rt; told, (320, Some(320)));
-}
-
-// Starts threads that put objects, one after another, while earlier ones are at work.
-fn start_three<
-    I: Index + Send,
-    D: LogDisk + Send,
-    O: Start + Send,
-    L: Lender + Send + Sync,
-    R: Threads + Wait + Sync,
->(rt: &R, pool: &Pool<'_, I, D, O, L>) {
-    thread::scope(thread::scope_env(), rt, move |scope| {
-        for number in 0..3u64 {
-            let first = number * 100;
-            if scope.spawn(move || put_all(rt, pool, first)).is_err() {
-                put_all(rt, pool, first);
-            }
-        }
-    });
-}
-
-// Opens a pool by hand, and takes its clients home.
-fn pools_by_hand<R: Threads + Wait + Sync, L: Lender + Send + Sync>(
-    rt: &R,
-    alloc: Global,
-    store: MemoryStore<KdTrie>,
-) -> MemoryStore<KdTrie>
-    requires { store.pass ≡ L.store }
-{
-    let (store, pass) = store.into_parts();
-    let mut boss = Client::new(&store, alloc, pass, 0);
-    if let Some(pool) = Pool::<_, _, _, L>::open(&mut boss, 1, 2) {
-        start_three(rt, &pool);
-        pool.close(&mut boss);
-    }
-    let pass = boss.into_pass();
-    ObjectStore::from_parts(alloc, store, pass)
-}
-
-fn pools_in_memory<R: Threads + Wait + Sync + Abort>(rt: &R, alloc: Global) -> Option<u64> {
-    let store = memory_store(rt, alloc);
-    let mut store = pools_by_hand::<R, Brand>(rt, alloc, store);
-    let len = store.len(rt).ok();
-    store.close();
-    len
-}
-
-#[test]
-fn threads_of_a_scope_come_and_go_by_hand(rt: HostRuntime) {
-    assert_same!(rt; pools_in_memory(&rt, rt.alloc()), Some(120));
 }
 
 // Whether a client is free while so many others of a pool are taken.

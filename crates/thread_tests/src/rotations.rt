@@ -11,6 +11,7 @@ use disk_mem::{DiskCall, Fail, MemDisk};
 use disk_trait::LogDisk;
 use flat_index::FlatIndex;
 use index_layer::Index;
+use pisrakun::{NotRotatedStore, ObjectStore};
 use std::alloc::Global;
 use std::process::Abort;
 use std::sync::Wait;
@@ -115,15 +116,20 @@ fn kept<I: Index, D: LogDisk, R: Wait + Abort>(
     leaves: Leaves,
 ) -> (RotateCause, D, D) {
     let (store, pass) = filled::<I, D, R>(rt, alloc, disk);
-    match rotate(rt, alloc, store, pass, spare, leaves) {
+    let store = ObjectStore::from_parts(alloc, store, pass);
+    let rotated = match leaves {
+        Leaves::AsTheyAre => store.rotate(rt, spare),
+        Leaves::Anew => store.rotate_anew(rt, spare),
+    };
+    match rotated {
         Err(
-            NotRotated::Kept {
+            NotRotatedStore::Kept {
                 store,
-                pass,
                 spare,
                 cause,
             },
         ) => {
+            let (store, pass) = store.into_parts();
             let pass = go_on(rt, alloc, &store, pass);
             (cause, close(rt, store, pass), spare)
         }
