@@ -3,10 +3,8 @@
 ghost use Rattle.pisrakun.specs.Caller.{Keeps};
 
 use crate::yard::{Day, ROWS, VANS, van_of, yard};
-use pisrakun::{
-    Change, Client, Crossing, Event, Fence, FenceCount, Fences, Index, Listed, LogDisk,
-    ObjectStore, Placed, Start, Tally, WatchFault, Work,
-};
+use anyhow::{Context, Result};
+use pisrakun::{Client, Crossing, Event, Fences, Index, LogDisk, ObjectStore, Start, Tally, Work};
 use std::alloc::Global;
 use std::sync::Wait;
 
@@ -29,25 +27,9 @@ pub struct Told {
     pub inside: u64,
 }
 
-// A tally of the fence that begins with these vans inside. That is no event of the day.
-fn tally_of(alloc: Global, fence: Fence, inside: &[Placed]) -> Option<Tally> {
-    let fences = Fences::of(alloc, &[fence]).ok()?;
-    let mut tally = Tally::new(alloc, &fences).ok()?;
-    for van in inside {
-        tally.moved(0, van.id, None, Some(van.at)).ok()?;
-    }
-    tally.take_events(alloc);
-    Some(tally)
-}
-
 fn count(events: &[Event], crossing: Crossing) -> usize {
     let events = events.iter();
     events.filter(|event| event.crossing == crossing).count()
-}
-
-// How many vans are inside the only fence.
-fn inside(counts: &[FenceCount]) -> u64 {
-    counts.first().map_or(0, |count| count.inside)
 }
 
 impl Driver {
@@ -58,25 +40,16 @@ impl Driver {
         store: &mut ObjectStore<I, D, O>,
         number: u8,
         day: Day,
-    ) -> Option<Driver> {
-        let fence = yard(number);
-        let Ok(Listed::All(vans)) = store.within(rt, fence.region) else {
-            return None;
-        };
-        Some(Driver {
+    ) -> Result<Driver> {
+        let fences = Fences::of(alloc, &[yard(number)])?;
+        let world = store.world(rt).ok().context("no memory")?;
+        let yard = Tally::over(alloc, &fences, &world).ok();
+        Ok(Driver {
             number,
             day,
-            yard: tally_of(alloc, fence, vans.as_slice())?,
+            yard: yard.context("no memory")?,
             good: 0,
         })
-    }
-
-    // Reports to the yard's tally what a report has changed, if anything.
-    fn watch(&mut self, change: Option<Change>) -> Result<(), WatchFault> {
-        match change {
-            Some(change) => self.yard.changed(&change),
-            None => Ok(()),
-        }
     }
 
     /// The result of the day.
@@ -86,7 +59,7 @@ impl Driver {
             good: self.good,
             came: count(events.as_slice(), Crossing::Enter),
             left: count(events.as_slice(), Crossing::Leave),
-            inside: inside(self.yard.counts()),
+            inside: self.yard.counts().first().map_or(0, |yard| yard.inside),
         }
     }
 }
@@ -102,11 +75,12 @@ impl<R: Wait> Work<R> for Driver {
                 return;
             };
             let is_good = self.day.is_good(self.number, row, told);
-            let change = told.change(client.place(), van, now.at);
-            if self.watch(change).is_err() {
+            self.good = self.good.saturating_add(u32::from(is_good));
+            if let Some(change) = told.change(client.place(), van, now.at)
+                && self.yard.changed(&change).is_err()
+            {
                 return;
             }
-            self.good = self.good.saturating_add(u32::from(is_good));
         }
     }
 }

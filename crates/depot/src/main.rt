@@ -12,19 +12,16 @@
 
 mod day;
 mod drivers;
-mod trouble;
 mod yard;
 
-use day::{DayEnd, look_after, play_days};
-use pisrakun::{FileDisk, FileStore, Found, KdTrie, LogDisk, OpenedPair, Which};
+use anyhow::Result;
+use day::{DayEnd, end_days, look_after, play_day};
+use pisrakun::{FileDisk, FileStore, KdTrie, LogDisk, OpenedPair, Which};
 use std::alloc::Global;
-use std::fs::Files;
 use std::io;
 use std::io::Print;
-use std::process::ExitCode;
 use std::sync::Wait;
 use std::thread::Threads;
-use trouble::Trouble;
 use yard::Day;
 
 const FIRST: &str = "depot.log";
@@ -33,6 +30,13 @@ const SECOND: &str = "depot.next.log";
 
 // How many vans a leaf should have.
 const BUCKET: u32 = 4;
+
+fn file_of(which: Which) -> &'static str {
+    match which {
+        Which::First => FIRST,
+        Which::Second => SECOND,
+    }
+}
 
 fn tell_day(rt: &impl Print, number: usize, end: &DayEnd) -> io::Result<()> {
     for (i, told) in end.told.iter().enumerate() {
@@ -45,27 +49,14 @@ fn tell_day(rt: &impl Print, number: usize, end: &DayEnd) -> io::Result<()> {
             told.inside
         )?;
     }
-    println!(rt;
-        "day {number}: room for {} more records",
-        end.room.records.unwrap_or(0)
-    )
-}
-
-fn file_of(which: Which) -> &'static str {
-    match which {
-        Which::First => FIRST,
-        Which::Second => SECOND,
-    }
+    let records = end.room.records.unwrap_or(0);
+    println!(rt; "day {number}: room for {records} more records")
 }
 
 // The store over the log in one of the files.
-fn open_vans<D: LogDisk>(
-    alloc: Global,
-    first: D,
-    second: D,
-) -> Result<OpenedPair<KdTrie, D>, Trouble> {
+fn open_vans<D: LogDisk>(alloc: Global, first: D, second: D) -> Result<OpenedPair<KdTrie, D>> {
     let opened = FileStore::<KdTrie, D>::open_pair(alloc, first, FIRST, second, SECOND, BUCKET);
-    opened.map_err(|refused| Trouble::Open(refused.cause))
+    Ok(opened.map_err(|refused| refused.cause)?)
 }
 
 // Plays two days over the log, from the latest moment in the log on. Returns the last day.
@@ -73,25 +64,23 @@ fn work<R: Threads + Wait + Sync + AllocGlobal + Print, D: LogDisk + Send>(
     rt: &R,
     first: D,
     second: D,
-) -> Result<Day, Trouble> {
+) -> Result<Day> {
     let alloc = rt.alloc();
     let OpenedPair {
-        store,
+        store: mut vans,
         spare,
         which,
         found,
     } = open_vans(alloc, first, second)?;
-    let Found {
-        objects,
-        latest,
-        records,
-    } = found;
-    let day = Day::behind(latest.unwrap_or(0));
-    let days = play_days(rt, alloc, store, spare, day);
-    println!(rt; "{}: {objects} vans in {records} records", file_of(which))?;
-    let [first, second] = days?;
-    tell_day(rt, 1, &first)?;
-    tell_day(rt, 2, &second)?;
+    let day = Day::behind(found.latest.unwrap_or(0));
+    let (file, vans_found, records) = (file_of(which), found.objects, found.records);
+    let told = println!(rt; "{file}: {vans_found} vans in {records} records");
+    let one = play_day(rt, alloc, &mut vans, day);
+    let two = play_day(rt, alloc, &mut vans, day.next());
+    end_days(rt, vans, spare)?;
+    told?;
+    tell_day(rt, 1, &one?)?;
+    tell_day(rt, 2, &two?)?;
     Ok(day.next())
 }
 
@@ -101,65 +90,25 @@ fn look_again<R: Wait + AllocGlobal + Print, D: LogDisk>(
     first: D,
     second: D,
     day: Day,
-) -> Result<(), Trouble> {
-    let alloc = rt.alloc();
+) -> Result<()> {
     let OpenedPair {
         store,
         spare: _,
         which,
         found,
-    } = open_vans(alloc, first, second)?;
+    } = open_vans(rt.alloc(), first, second)?;
     let left = look_after(rt, store, day);
-    println!(rt;
-        "{}: opened again, {} vans in {} records",
-        file_of(which),
-        found.objects,
-        found.records
-    )?;
+    let (file, vans_found, records) = (file_of(which), found.objects, found.records);
+    println!(rt; "{file}: opened again, {vans_found} vans in {records} records")?;
     for (i, left) in left.iter().enumerate() {
         println!(rt; "driver {}: {left} vans where they were left", i + 1)?;
     }
     Ok(())
 }
 
-// A drive without a file.
-fn drive<R: Files + Clone + Drop>(rt: &R) -> io::Result<FileDisk<R>> {
-    Ok(FileDisk::new(rt.clone()?))
-}
-
-// The drives of a run: two for its days, and two for the opening afterwards.
-struct Drives<D> {
-    days: [D; 2],
-    again: [D; 2],
-}
-
-fn four_drives<R: Files + Clone + Drop>(rt: &R) -> io::Result<Drives<FileDisk<R>>> {
-    Ok(Drives {
-        days: [drive(rt)?, drive(rt)?],
-        again: [drive(rt)?, drive(rt)?],
-    })
-}
-
-fn run<R: Threads + Wait + Sync + AllocGlobal + Print, D: LogDisk + Send>(
-    rt: &R,
-    drives: Drives<D>,
-) -> Result<(), Trouble> {
-    let Drives { days, again } = drives;
-    let [first, second] = days;
-    let day = work(rt, first, second)?;
-    let [first, second] = again;
-    look_again(rt, first, second, day)
-}
-
-fn main(rt: HostRuntime) -> ExitCode {
-    let Ok(drives) = four_drives(&rt) else {
-        return ExitCode::FAILURE;
-    };
-    match run(&rt, drives) {
-        Ok(()) => ExitCode::SUCCESS,
-        Err(trouble) => {
-            let _ = println!(rt; "{trouble}");
-            ExitCode::FAILURE
-        }
-    }
+fn main(rt: HostRuntime) -> Result<()> {
+    let (first, second) = (FileDisk::new(rt.clone()?), FileDisk::new(rt.clone()?));
+    let day = work(&rt, first, second)?;
+    let (first, second) = (FileDisk::new(rt.clone()?), FileDisk::new(rt.clone()?));
+    look_again(&rt, first, second, day)
 }

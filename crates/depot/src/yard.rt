@@ -1,6 +1,4 @@
 //! Where each van is and when, and the answer that its driver should get.
-ghost use Rattle.pisrakun.specs.Region.{IsBox};
-
 use pisrakun::{Fence, Point, Region, Report, Stamped};
 
 /// How many reports a driver makes in a day: one for each van, round by round.
@@ -34,9 +32,7 @@ fn corner(driver: u8) -> Point {
 }
 
 /// The yard of a driver's quarter. The vans are there in the first two rounds and the last two.
-pub fn yard(driver: u8) -> Fence
-    ensures { IsBox result.region }
-{
+pub fn yard(driver: u8) -> Fence {
     let lo = corner(driver);
     let hi = Point {
         x: lo.x.saturating_add(1),
