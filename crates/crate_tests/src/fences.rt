@@ -9,10 +9,11 @@ use crate::logs::fixtures::log_of;
 use crate::memory::disk_of;
 use cell_format::Cell;
 use disk_trait::LogDisk;
-use fence_watch::{Crossing, Event, Watch, read_fences};
+use fence_watch::{Crossing, Event, Watch};
 use recovery::Walk;
 use std::alloc::Global;
 use std::process::Abort;
+use watch_run::read_fences;
 use zorder::{Name, Point};
 
 // No log here has as many cells.

@@ -1,10 +1,12 @@
 //! Fences and turns that are read.
 
 use csv_rows::RowsFault;
-use fence_watch::{Fence, read_fences};
-use follower::{Turn, read_turns};
+use fence_watch::Fence;
+use follow_run::read_turns;
+use follower::Turn;
 use std::alloc::Global;
 use std::process::Abort;
+use watch_run::read_fences;
 use zorder::{Point, Region};
 
 const TWO_FENCES: &[Fence] = &[

@@ -3,10 +3,11 @@ use crate::logs::fixtures::log_of;
 use crate::memory::disk_of;
 use cell_format::Cell;
 use disk_trait::LogDisk;
-use fence_watch::{Tally, read_fences};
+use fence_watch::Tally;
 use recovery::Walk;
 use std::alloc::{AllocError, Global};
 use std::process::Abort;
+use watch_run::read_fences;
 use zorder::{Point, Region};
 
 // Where each object is, if it is there.

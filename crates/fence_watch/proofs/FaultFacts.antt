@@ -9,7 +9,7 @@ use Rattle.fence_watch.specs.declared.making.BadFences.{BadFences}
 use Rattle.fence_watch.specs.declared.making.BadFences.TheVariants.{TooMany, NoBox, Twice}
 use Rattle.fence_watch.specs.Fences.{AreFences, IsFence, has_fence}
 use Rattle.fence_watch.specs.FenceFaults.{is_box, fault_behind, first_of_two, fault_among, fault_of}
-use Rattle.fence_watch.proofs.RowsFacts.{fence-more}
+use Rattle.fence_watch.proofs.MoreFences.{fence-more}
 
 -- The first `i` fences keep the rules.
 pub record Looked (i : ℕ) (fences : List Fence) : Type 0 where

@@ -1,4 +1,4 @@
-pub mod RowsFacts
+pub mod MoreFences
 pub mod FaultFacts
 pub mod Insides
 pub mod Following

@@ -1,6 +1,5 @@
 pub mod Fences
 pub mod FenceFaults
-pub mod FenceRows
 pub mod FenceExamples
 pub mod Crossings
 pub mod Watches

@@ -16,7 +16,8 @@ pub struct Fence {
 /// The most fences of one watch.
 pub const MOST_FENCES: usize = 256;
 
-pub(crate) fn has_fence(fences: &[Fence], id: u64) -> bool
+/// Whether a fence has this id.
+pub fn has_fence(fences: &[Fence], id: u64) -> bool
     ensures { result ≡ has_fence id fences.now }
 {
     fences.iter().any(|fence| fence.id == id)
@@ -41,7 +42,8 @@ impl Model for Fences {
 }
 
 impl Fences {
-    pub(crate) fn from_vec(items: Vec<Fence>) -> Fences
+    /// The fences of a list that keeps the rules.
+    pub fn from_vec(items: Vec<Fence>) -> Fences
         requires { AreFences items.items }
         ensures { result ≡ items.items }
     {

@@ -8,9 +8,9 @@
 //! - After the changes of a history, each reported once and in order (`changed`), events and numbers are those of the
 //!   history (`TalliesChanges`).
 //! - A `Watch` is a tally that also keeps the ids inside each fence.
-//! - Fences come from a text (`read_fences`) or from code (`Fences::of`).
+//! - Fences come from code (`Fences::of`, or `Fences::from_vec` for a list that keeps the rules).
 //!
-//! Not here: how a log is walked (`recovery`), how lines are written (`watch_run`).
+//! Not here: how a log is walked (`recovery`), how fences are read from a text and lines are written (`watch_run`).
 #![tactic(auto)]
 
 mod along;
@@ -21,15 +21,13 @@ mod hints;
 mod ids;
 mod making;
 mod passages;
-mod rows;
 mod slabs;
 mod tally;
 mod watch;
 
 pub use along::AlongFault;
 pub use counts::FenceCount;
-pub use fences::{Crossing, Event, Fence, Fences, MOST_FENCES};
+pub use fences::{Crossing, Event, Fence, Fences, MOST_FENCES, has_fence};
 pub use making::BadFences;
-pub use rows::read_fences;
 pub use tally::{MOST_FENCE_EVENTS, Tally};
 pub use watch::{Watch, WatchFault};

@@ -9,7 +9,7 @@ use Rattle.cell_format.specs.declared.cell.Cell.{Cell}
 use Rattle.csv_rows.specs.declared.rows.RowsFault.{RowsFault}
 use Rattle.csv_rows.specs.declared.rows.RowsFault.TheVariants as rows_fault
 use Rattle.follower.specs.declared.turns.Turn.{Turn}
-use Rattle.follower.specs.TurnRows.{turns_of_text}
+use Rattle.follow_run.specs.TurnRows.{turns_of_text}
 use Rattle.run_ends.specs.declared.refusals.Refusal.{Refusal}
 use Rattle.run_ends.specs.declared.refusals.Refusal.TheVariants as refusal
 use Rattle.run_ends.specs.Judged.{refusal_of}

@@ -1,3 +1,4 @@
+pub mod TurnRowsFacts
 pub mod Examples
 pub mod LineFacts
 pub mod PlayFacts

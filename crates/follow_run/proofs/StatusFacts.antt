@@ -4,7 +4,7 @@ use Rattle.cell_format.specs.declared.cell.Cell.{Cell}
 use Rattle.io_edge.specs.Streams.{Output}
 use Rattle.disk_trait.specs.Drive.{Drive}
 use Rattle.follower.specs.declared.turns.Turn.{Turn}
-use Rattle.follower.specs.TurnRows.{turns_of_text}
+use Rattle.follow_run.specs.TurnRows.{turns_of_text}
 use Rattle.run_ends.specs.Ends.{Ends, Done, Targets}
 use Rattle.run_ends.specs.Tables.{IsTableCause}
 use Rattle.run_ends.proofs.Ends.{not-usage, not-written}

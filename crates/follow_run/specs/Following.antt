@@ -7,7 +7,7 @@ use Rattle.cell_format.specs.Spelling.{newest}
 use Rattle.recovery.specs.Faults.{IsFault, IsInBytes}
 use Rattle.recovery.specs.declared.seen.OpenFault.{OpenFault}
 use Rattle.follower.specs.declared.turns.Turn.{Turn}
-use Rattle.follower.specs.TurnRows.{turns_of_text}
+use Rattle.follow_run.specs.TurnRows.{turns_of_text}
 use Rattle.follower.specs.Holding.{most_followed}
 use Rattle.follower.specs.Opening.{IsStrange, IsTaken, most_held}
 use Rattle.io_edge.specs.Streams.{Input}

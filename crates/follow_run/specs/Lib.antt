@@ -1,3 +1,5 @@
+pub mod TurnRows
+pub mod TurnExamples
 pub mod Lines
 pub mod Replica
 pub mod Leading

@@ -2,7 +2,7 @@
 ghost use Rattle.std.specs.Prelude.{◌≡◌, ◌≢◌, ◌+◌, [], IfOk, IfErr};
 ghost use Rattle.io_edge.specs.Reads.{ConsumesUpTo};
 ghost use Rattle.follower.specs.Follow.{AreTurns};
-ghost use Rattle.follower.specs.TurnRows.{turns_of_text};
+ghost use Rattle.follow_run.specs.TurnRows.{turns_of_text};
 ghost use Rattle.run_ends.specs.Ends.{done_by, targets};
 ghost use Rattle.run_ends.specs.Limits.{most_bytes};
 ghost use Rattle.run_ends.specs.Tables.{IsTableCause, ReadsTable};
@@ -10,8 +10,9 @@ ghost use Rattle.follow_run.specs.Following.{EndsFollowing, Follows};
 
 use crate::leader::{Leader, find_leader};
 use crate::replica::copy_to;
+use crate::turn_rows::read_turns;
 use disk_trait::LogDisk;
-use follower::{Turn, Turns, read_turns};
+use follower::{Turn, Turns};
 use io_edge::{Sink, Source};
 use run_ends::{Drives, Ended, Refusal, Unmade, read_bytes, refusal_of, refuse_on};
 use std::alloc::Global;

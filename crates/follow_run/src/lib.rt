@@ -8,6 +8,8 @@
 //! - At each moment since the second file was opened, a crash leaves the first of the leader's cells: at least as many
 //!   as were held when the turn began.
 //!
+//! `read_turns` reads the turns of a text.
+//!
 //! Not here: what a turn does (`follower`), what commands share (`run_ends`), how a log is walked (`recovery`).
 #![tactic(auto)]
 
@@ -15,5 +17,7 @@ mod following;
 mod leader;
 mod lines;
 mod replica;
+mod turn_rows;
 
 pub use following::follow_log;
+pub use turn_rows::read_turns;

@@ -1,4 +1,3 @@
-pub mod TurnRowsFacts
 pub mod Machine
 pub mod Prefixes
 pub mod AddLemmas

@@ -1,6 +1,4 @@
 pub mod Follow
-pub mod TurnRows
-pub mod TurnExamples
 pub mod Holding
 pub mod Faults
 pub mod Turning

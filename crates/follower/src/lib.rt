@@ -15,10 +15,8 @@ mod faults;
 mod follower;
 mod laws;
 mod reopening;
-mod turn_rows;
 mod turns;
 
 pub use faults::{FollowFault, FollowRefused};
 pub use follower::{Follower, Turned};
-pub use turn_rows::read_turns;
 pub use turns::{Report, Turn, Turns};

@@ -37,7 +37,8 @@ impl Model for Turns {
 impl Turns {
     ghost use Rattle.follower.specs.Follow.{AreTurns};
 
-    pub(crate) fn from_vec(items: Vec<Turn>) -> Turns
+    /// The turns of a list. Each names only what those before it send.
+    pub fn from_vec(items: Vec<Turn>) -> Turns
         requires { AreTurns items.items }
         ensures { result ≡ items.items }
     {

@@ -1,3 +1,4 @@
+pub mod FenceRowsFacts
 pub mod Crowds
 pub mod Stops
 pub mod Alongs

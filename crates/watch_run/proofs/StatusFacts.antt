@@ -8,7 +8,7 @@ use Rattle.run_ends.specs.Tables.{IsTableCause}
 use Rattle.run_ends.proofs.Ends.{not-usage, not-written}
 use Rattle.log_run.specs.Checking.{TellsCells}
 use Rattle.fence_watch.specs.declared.fences.Fence.{Fence}
-use Rattle.fence_watch.specs.FenceRows.{fences_of_text}
+use Rattle.watch_run.specs.FenceRows.{fences_of_text}
 use Rattle.watch_run.specs.WatchLines.{watched_text}
 use Rattle.watch_run.specs.Watching.{EndsWatching, GoesAlong, IsWatchingCause}
 

@@ -17,7 +17,7 @@ use Rattle.run_ends.specs.Tables.{IsTableCause, judged_by}
 use Rattle.run_ends.proofs.AttachFacts.{attaches-one, attaches-as}
 use Rattle.log_run.proofs.MakingEnds.{ends-writing, whole-writing}
 use Rattle.fence_watch.specs.declared.fences.Fence.{Fence}
-use Rattle.fence_watch.specs.FenceRows.{fences_of_text}
+use Rattle.watch_run.specs.FenceRows.{fences_of_text}
 use Rattle.fence_watch.specs.Tallies.{TallyView}
 use Rattle.watch_run.specs.WatchLines.{watched_text}
 use Rattle.watch_run.specs.Watching.{EndsWatching, GoesAlong, IsDecidedAlong, Watches}

@@ -1,3 +1,5 @@
+pub mod FenceRows
+pub mod FenceRowExamples
 pub mod WatchLines
 pub mod Watching
 pub mod Examples

@@ -21,7 +21,7 @@ use Rattle.run_ends.specs.LogFaults.{log_refusal}
 use Rattle.run_ends.specs.Tables.{IsTableCause, ReadsTable, judged_by}
 use Rattle.log_run.specs.Checking.{IsCheckingCause, TellsCells}
 use Rattle.fence_watch.specs.declared.fences.Fence.{Fence}
-use Rattle.fence_watch.specs.FenceRows.{fences_of_text}
+use Rattle.watch_run.specs.FenceRows.{fences_of_text}
 use Rattle.fence_watch.specs.Crossings.{crossings}
 use Rattle.fence_watch.specs.Watches.{most_events}
 use Rattle.watch_run.specs.WatchLines.{watched_text}

@@ -3,9 +3,10 @@ ghost use Rattle.std.specs.Prelude.{◌≡◌, ◌≢◌, ◌≤◌, ◌+◌, Ok
 ghost use Rattle.io_edge.specs.Reads.{ConsumesUpTo};
 ghost use Rattle.run_ends.specs.Limits.{most_bytes};
 ghost use Rattle.run_ends.specs.Tables.{IsTableCause, ReadsTable, judged_by};
-ghost use Rattle.fence_watch.specs.FenceRows.{fences_of_text};
+ghost use Rattle.watch_run.specs.FenceRows.{fences_of_text};
 
-use fence_watch::{Fences, read_fences};
+use crate::fence_rows::read_fences;
+use fence_watch::Fences;
 use io_edge::Source;
 use run_ends::{Refusal, read_bytes, refusal_of};
 use std::alloc::Global;

@@ -3,11 +3,11 @@ ghost use Rattle.std.specs.Prelude.{◌≡◌, ◌≢◌, ◌<◌, ◌∷◌, []
 ghost use Rattle.csv.specs.Records.{fields_of};
 ghost use Rattle.csv_rows.specs.Tables.{is_header_of};
 ghost use Rattle.follower.specs.Follow.{packets_after, acks_after};
-ghost use Rattle.follower.specs.TurnRows.{turn_by, turn_in, turn_table, turns_of_text};
+ghost use Rattle.follow_run.specs.TurnRows.{turn_by, turn_in, turn_table, turns_of_text};
 
-use crate::turns::{Turn, Turns};
 use csv::ByteRecord;
 use csv_rows::{ID, ReadsRow, RowsFault, Rule, Wrong, field_in, is_text, number_at, read_table};
+use follower::{Turn, Turns};
 use std::alloc::Global;
 
 const MOST_TURNS: u32 = 65_536;
@@ -36,7 +36,7 @@ struct Sent {
 
 impl ReadsRow for Sent {
     ghost use Rattle.std.specs.Prelude.{◌≡◌};
-    ghost use Rattle.follower.specs.TurnRows.{acks_of, packets_of, turn_table};
+    ghost use Rattle.follow_run.specs.TurnRows.{acks_of, packets_of, turn_table};
 
     type Row = Turn;
 

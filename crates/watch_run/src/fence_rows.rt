@@ -2,14 +2,14 @@
 ghost use Rattle.std.specs.Prelude.{◌≡◌, ◌≢◌, ◌∷◌, [], Ok, Err, IfOk, IfErr, MatchOption, length};
 ghost use Rattle.csv.specs.Records.{fields_of};
 ghost use Rattle.csv_rows.specs.Tables.{is_header_of};
-ghost use Rattle.fence_watch.specs.FenceRows.{fence_of, fence_at, fence_table, fences_of_text};
+ghost use Rattle.watch_run.specs.FenceRows.{fence_of, fence_at, fence_table, fences_of_text};
 
-use crate::fences::{Fence, Fences, MOST_FENCES, has_fence};
 use csv::ByteRecord;
 use csv_rows::{
     COORDINATE, ID, ReadsRow, RowsFault, Wrong, at_least, field_in, is_text, number_at, point_of,
     read_table,
 };
+use fence_watch::{Fence, Fences, MOST_FENCES, has_fence};
 use std::alloc::Global;
 use zorder::Region;
 
@@ -30,7 +30,7 @@ struct FenceRows;
 
 impl ReadsRow for FenceRows {
     ghost use Rattle.std.specs.Prelude.{⊤};
-    ghost use Rattle.fence_watch.specs.FenceRows.{fence_table};
+    ghost use Rattle.watch_run.specs.FenceRows.{fence_table};
 
     type Row = Fence;
 

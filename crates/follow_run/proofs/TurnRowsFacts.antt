@@ -13,7 +13,7 @@ use Rattle.csv_rows.proofs.TablesFacts.{table-keeps}
 use Rattle.follower.specs.declared.turns.Turn.{Turn}
 use Rattle.follower.specs.declared.turns.Turn.TheVariants.{Send, Arrive, Ack, Restart}
 use Rattle.follower.specs.Follow.{AllNameSent, AreTurns, NamesSent, acks_after, packets_after}
-use Rattle.follower.specs.TurnRows.{acks_of, numbered, packets_of, turn_by, turn_in, turn_of, turn_table, turns_of_text}
+use Rattle.follow_run.specs.TurnRows.{acks_of, numbered, packets_of, turn_by, turn_in, turn_of, turn_table, turns_of_text}
 
 -- A record of two fields has only the fields at these two places.
 pub two_fields : (fields : List (List ℕ)) (a b : List ℕ) → length fields ≡ 2 → field_at fields 0 ≡ Some a → field_at fields 1 ≡ Some b → fields ≡ a ∷ b ∷ []

@@ -1,7 +1,7 @@
 use Rattle.std.proofs.Common.{◌∙◌, ap, sym}
 use Rattle.follower.specs.Follow.{acks_after, packets_after}
-use Rattle.follower.proofs.TurnRowsFacts.{acks-more, few-acks, few-packets, packets-more}
-use Rattle.follower.proofs.turn_rows.SentReadsRow.row.Goals as goal
+use Rattle.follow_run.proofs.TurnRowsFacts.{acks-more, few-acks, few-packets, packets-more}
+use Rattle.follow_run.proofs.turn_rows.SentReadsRow.row.Goals as goal
 
 pub sent_after-requires-clause-packets : goal.sent_after-requires-clause-packets
 sent_after-requires-clause-packets c = few-packets _ _ c.requires.knows.0 c.requires.few

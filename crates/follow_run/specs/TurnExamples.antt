@@ -7,7 +7,7 @@ use Rattle.csv_rows.specs.declared.rows.RowsFault.TheVariants as fault
 use Rattle.csv_rows.specs.Numbers.{is_between, is_number}
 use Rattle.csv_rows.specs.Tables.{rows_of_text}
 use Rattle.follower.specs.declared.turns.Turn.TheVariants.{Send, Arrive, Ack, Restart}
-use Rattle.follower.specs.TurnRows.{turns_of_text}
+use Rattle.follow_run.specs.TurnRows.{turns_of_text}
 
 abbrev header : List ℕ
 header = codes "turn,number\n"

@@ -1,7 +1,5 @@
 -- Fences that were read one after the other.
 use Rattle.std.proofs.Common.{◌≡◌, ◌≢◌, ◌<◌, ◌==◌, ◌||◌, ◌+◌, ℕ, Bool, true, false, cond, List, [], ◌∷◌, ◌++◌, length, Option, Some, None, Ok, Err, refl, sym, subst, arith, length-append}
-use Rattle.std.proofs.lemmas.Bool.{eqb-false}
-use Rattle.std.specs.List.{AllByRecursion}
 use Rattle.csv.specs.Records.{field_at}
 use Rattle.csv_rows.specs.declared.columns.Rule.{Rule}
 use Rattle.csv_rows.specs.declared.columns.Rule.TheVariants.{Between}
@@ -11,8 +9,9 @@ use Rattle.csv_rows.specs.Fields.{first_fault, unless}
 use Rattle.csv_rows.proofs.NumbersFacts.{is_between-bounds}
 use Rattle.csv_rows.proofs.TablesFacts.{table-keeps}
 use Rattle.fence_watch.specs.declared.fences.Fence.{Fence}
-use Rattle.fence_watch.specs.Fences.{AreDistinct, AreFences, IsFence, has_fence}
-use Rattle.fence_watch.specs.FenceRows.{corner_rules, fence_at, fence_of, fence_table, fences_of_text}
+use Rattle.fence_watch.specs.Fences.{AreFences, has_fence}
+use Rattle.fence_watch.proofs.MoreFences.{IsNew, fence-more}
+use Rattle.watch_run.specs.FenceRows.{corner_rules, fence_at, fence_of, fence_table, fences_of_text}
 
 -- A record of five fields has only the fields at these five places.
 pub five_fields : (fields : List (List ℕ)) (a b c d e : List ℕ) → length fields ≡ 5 → field_at fields 0 ≡ Some a → field_at fields 1 ≡ Some b → field_at fields 2 ≡ Some c → field_at fields 3 ≡ Some d → field_at fields 4 ≡ Some e
@@ -38,11 +37,6 @@ no-fault column rule rules field fields e = by_test (keeps rule field) e
     by_test : (b : Bool) → cond b (first_fault (column + 1) rules fields) (Some column) ≡ None → (b ≡ true) × (first_fault (column + 1) rules fields ≡ None)
     by_test true is = (refl, is)
     by_test false is = cc is
-
--- A fence whose id no earlier one has.
-pub record IsNew (earlier : List Fence) (f : Fence) : Type 0 where
-  pub fence : IsFence f
-  pub other : has_fence f.id earlier ≡ false
 
 fence-at : (earlier : List Fence) (id : ℕ) (x y a b : List ℕ) (f : Fence) → id < 18446744073709551616 → has_fence id earlier ≡ false → fence_at id x y a b ≡ Ok f → IsNew earlier f
 fence-at earlier id x y a b f fits new e =
@@ -85,28 +79,6 @@ fence-new earlier (a ∷ b ∷ []) f e = cc e
 fence-new earlier (a ∷ b ∷ c ∷ []) f e = cc e
 fence-new earlier (a ∷ b ∷ c ∷ d ∷ []) f e = cc e
 fence-new earlier (a ∷ b ∷ c ∷ d ∷ g ∷ h ∷ fields) f e = cc e
-
-all-more : (P : Fence → Type 0) (fences : List Fence) (f : Fence) → AllByRecursion P fences → P f → AllByRecursion P (fences ++ f ∷ [])
-all-more P [] f all last = (last, tt)
-all-more P (g ∷ fences) f all last = (all.0, all-more P fences f all.1 last)
-
-or-parts : (a b : Bool) → (a || b) ≡ false → (a ≡ false) × (b ≡ false)
-or-parts false b e = (refl, e)
-or-parts true b e = cc e
-
-distinct-more : (fences : List Fence) (f : Fence) → AreDistinct fences → has_fence f.id fences ≡ false → AreDistinct (fences ++ f ∷ [])
-distinct-more [] f distinct other = (tt, tt)
-distinct-more (g ∷ fences) f distinct other =
-    let parts = or-parts (g.id == f.id) (has_fence f.id fences) other in
-    (all-more (λ (h : Fence). h.id ≢ g.id) fences f distinct.0 (λ same. eqb-false g.id f.id parts.0 (sym same)), distinct-more fences f distinct.1 parts.1)
-
--- One more fence.
-pub fence-more : (fences : List Fence) (f : Fence) → length fences < 256 → IsNew fences f → AreFences fences → AreFences (fences ++ f ∷ [])
-fence-more fences f few new good = record {
-  each = all-more IsFence fences f good.each new.fence;
-  distinct = distinct-more fences f good.distinct new.other;
-  most = omega (arith, few, length-append fences (f ∷ []));
-}
 
 fences-more : (fences : List Fence) (fields : List (List ℕ)) (f : Fence) → length fences < 256 → fence_of fences fields ≡ Ok f → AreFences fences → AreFences (fences ++ f ∷ [])
 fences-more fences fields f few is good = fence-more fences f few (fence-new fences fields f is) good
