@@ -2,18 +2,15 @@
 use Rattle.std.proofs.Common.{◌≡◌, ◌≢◌, ℕ, ◌*◌, ◌-◌, ◌≤◌, List, [], ◌∷◌, ◌++◌, length, take, drop, Result, Err, refl, sym, ◌∙◌, ap, subst, arith, length-append}
 use Rattle.std.proofs.lemmas.List.{append-nil, take_all, nil_from_length}
 use Rattle.std.specs.List.{flat_map, AllByRecursion}
-use Rattle.disk_trait.specs.Drive.{Drive, KeepsLaws, MadeWell}
-use Rattle.disk_trait.specs.Moments.{LeavesOnly}
+use Rattle.disk_trait.specs.Drive.{Drive, MadeWell}
 use Rattle.disk_trait.proofs.Calls.{made-none}
 use Rattle.cell_format.specs.declared.cell.Cell.{Cell}
 use Rattle.cell_format.specs.Spelling.{newest, IsCell, spelling}
 use Rattle.split_log.specs.declared.log.AppendAllFault.{AppendAllFault}
 use Rattle.split_log.specs.declared.log.AppendAllFault.TheVariants.{Disk}
-use Rattle.split_log.specs.LogText.{IsLog, HoldsAllOrNone, behind_first}
+use Rattle.split_log.specs.LogText.{IsLog, behind_first}
 use Rattle.split_log.specs.Append.{IsReady, calls_to_add}
 use Rattle.split_log.proofs.Cells.{behind_first-text, length-cells}
-use Rattle.split_log.proofs.Commits.{only-none}
-use Rattle.split_log.proofs.Placing.{before_all}
 
 -- The text without its first byte.
 abbrev pub behind_one : List ℕ → List ℕ

@@ -25,7 +25,7 @@ pub length-log : (count : ℕ) (bytes : List ℕ) → IsLogOf count bytes → le
 length-log count bytes of =
     omega (arith, ap length of.text.text, length-append (front_of newest of.width of.cells) (of.text.commit_byte ∷ []), length-front_of newest of.width of.cells, of.count_is)
 
-fit_more : (cells more : List Cell) → AllByRecursion (IsCell newest) cells → AllByRecursion (IsCell newest) more → AllByRecursion (IsCell newest) (cells ++ more)
+pub fit_more : (cells more : List Cell) → AllByRecursion (IsCell newest) cells → AllByRecursion (IsCell newest) more → AllByRecursion (IsCell newest) (cells ++ more)
 fit_more [] more all fit = fit
 fit_more (c ∷ cells) more all fit = (all.0, fit_more cells more all.1 fit)
 

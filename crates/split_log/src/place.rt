@@ -1,5 +1,5 @@
 //! The four device calls that add cells.
-ghost use Rattle.std.specs.Prelude.{◌≡◌, ◌+◌, ◌≤◌, ◌^◌, ◌∷◌, [], ◌++◌, ℕ, List, Some, OnOk, OnErr, IfOk, is_some, length};
+ghost use Rattle.std.specs.Prelude.{◌≡◌, ◌+◌, ◌≤◌, ◌^◌, ◌∷◌, [], ◌++◌, ℕ, List, Some, OnOk, OnErr, IfOk, is_some, length, vec_capacity};
 ghost use Rattle.disk_trait.specs.Drive.{CountsFaults, MadeWell};
 ghost use Rattle.disk_trait.specs.Moments.{LeavesOnly};
 ghost use Rattle.cell_format.specs.declared.cell.Cell.{Cell};
@@ -15,7 +15,7 @@ use disk_trait::{DiskFault, LogDisk};
 use std::alloc::{AllocError, Global};
 
 /// The length of a cell in bytes, with its commit byte.
-const CELL: usize = 32;
+pub(crate) const CELL: usize = 32;
 
 /// Writes a piece after the clear commit byte at `at`, and then sets that byte.
 pub(crate) fn place<D: LogDisk>(disk: &mut D, at: u64, piece: &[u8]) -> Result<(), DiskFault>
@@ -43,11 +43,21 @@ pub(crate) fn text_of(alloc: Global, cells: &[Cell]) -> Result<Vec<u8>, AllocErr
     ensures fits { OnOk result (AllByRecursion (IsCell newest) cells.now) }
 {
     let mut text = Vec::with_capacity(alloc, CELL * cells.len() + 1)?;
+    spell_all(&mut text, cells)?;
+    Ok(text)
+}
+
+/// Adds the cells to a text, each with its commit byte set, and a clear commit byte after the last one.
+pub(crate) fn spell_all(text: &mut Vec<u8>, cells: &[Cell]) -> Result<(), AllocError>
+    ensures text { OnOk result (text.new.items ≡ text.old.items ++ (flat_map spelling cells.now ++ 0 ∷ [])) }
+    ensures fits { OnOk result (AllByRecursion (IsCell newest) cells.now) }
+    ensures capacity { vec_capacity text.old ≤ vec_capacity text.new }
+{
     for cell in cells {
         text.extend_from_slice(&encode(cell))?;
     }
     text.push(0)?;
-    Ok(text)
+    Ok(())
 }
 
 /// The bytes of a cell after its commit byte, and a clear commit byte for the next cell.
