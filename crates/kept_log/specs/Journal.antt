@@ -6,7 +6,7 @@ use Rattle.plain_list.specs.declared.entries.Entry.{Entry}
 use Rattle.plain_list.specs.declared.entries.Entry.TheVariants.{Fail}
 use Rattle.plain_list.specs.declared.entries.Lost.{Lost}
 use Rattle.plain_list.specs.World.{World}
-use Rattle.plain_list.specs.State.{State}
+use Rattle.plain_list.specs.State.{State, IsLegal}
 use Rattle.plain_list.specs.Batch.{AreFailsOf}
 pub use Rattle.plain_list.specs.History.{failed_cell}
 use Rattle.disk_trait.specs.Drive.{Drive, Made, SameFile}
@@ -18,14 +18,33 @@ use Rattle.kept_log.specs.KeptView.{KeptView, kept_view}
 use Rattle.kept_log.specs.Kept.{StartsWith, RecoversTo, Keeps}
 use Rattle.split_log.specs.LogView.{LogView, most_cells}
 use Rattle.split_log.specs.Append.{calls_to_add}
-use Rattle.kept_log.specs.declared.journal.AppendAllLost.{AppendAllLost}
-use Rattle.kept_log.specs.declared.journal.AppendAllLost.TheVariants.{Disk, Memory}
+use Rattle.kept_log.specs.declared.faults.AppendAllLost.{AppendAllLost}
+use Rattle.kept_log.specs.declared.faults.AppendAllLost.TheVariants.{Disk, Memory}
 use Rattle.kept_log.specs.Steps.{IsNext, AreNext, IsSince}
 
--- The number of cells, or 0 without a log.
+-- The number of cells, those that wait included, or 0 without a log.
 abbrev pub cells_in : {D : Type 0} → Option (KeptView D) → ℕ
 cells_in None = 0
-cells_in (Some log) = log.cells
+cells_in (Some log) = log.cells + length log.waiting
+
+-- The number of cells in the file, or 0 without a log. The next cell that is written has this number.
+abbrev pub written_in : {D : Type 0} → Option (KeptView D) → ℕ
+written_in None = 0
+written_in (Some log) = log.cells
+
+-- The cells that wait.
+abbrev pub waiting_in : {D : Type 0} → Option (KeptView D) → List Cell
+waiting_in None = []
+waiting_in (Some log) = log.waiting
+
+-- Whether cells wait for a sync. Without a log none do.
+abbrev pub at_sync_in : {D : Type 0} → Option (KeptView D) → Bool
+at_sync_in None = false
+at_sync_in (Some log) = log.at_sync
+
+-- The log, whose cells wait from now on.
+abbrev pub waits_from : {D : Type 0} → KeptView D → KeptView D
+waits_from log = record log { at_sync = true }
 
 -- The number of the cell whose append failed.
 abbrev pub failed_in : {D : Type 0} → Option (KeptView D) → Option ℕ
@@ -42,7 +61,7 @@ abbrev pub log_in : {D : Type 0} → Option (KeptView D) → Option (LogView D)
 log_in None = None
 log_in (Some log) = Some (kept_view log)
 
--- The log keeps the history. It has failed if and only if the history says so, and no device call follows one that
+-- The log's file keeps the history. It has failed if and only if the history says so, and no device call follows one that
 -- failed. The failed append names the log's number of cells, and the drive's count of faults has risen since the
 -- opening. Without a failed append no call of the drive failed. The drive's file is still the one that was attached.
 pub record KeepsLog {D : Type 0} (drive : D → Drive) (w : ℕ) (s : State) (h : List Entry) (log : KeptView D) : Type 0 where
@@ -61,10 +80,27 @@ pub record KeepsLog {D : Type 0} (drive : D → Drive) (w : ℕ) (s : State) (h 
   pub told : is_some (drive log.disk).bytes ≡ is_some (drive log.start).bytes
   pub from : (bytes : List ℕ) → (drive log.start).bytes ≡ Some bytes → RecoversTo w s bytes
 
+-- The cells that a failed append has lost, if these waited: they and the cells of the history's failed appends. A sync
+-- has no cell of its own, so it has lost the waiting cells alone.
+abbrev pub AreLost : List Cell → List Cell → List Cell → Type 0
+AreLost waiting last lost = (lost ≡ waiting ++ last) ⊎ (lost ≡ waiting)
+
+-- The log keeps the history, of which the last cells may wait. The file keeps a history with the cells before them. An
+-- append fails in both or in none. The file's history has then lost the waiting cells too.
+pub record KeepsWaiting {D : Type 0} (drive : D → Drive) (w : ℕ) (s : State) (h : List Entry) (log : KeptView D) : Type 0 where
+  pub written : List Entry
+  pub keeps : KeepsLog drive w s written log
+  pub cells : cells_of s.world h ≡ cells_of s.world written ++ log.waiting
+  pub failed : log.failed ≡ failed_cell h
+  pub lost : is_some log.failed ≡ true → AreLost log.waiting (failed_cells h) (failed_cells written)
+  -- If no cell waits for a sync, the file keeps all that the history says.
+  pub at_once : log.at_sync ≡ false → (log.waiting ≡ []) × (failed_cells written ≡ failed_cells h)
+  pub most : log.cells + length log.waiting ≤ most_cells
+
 -- The log keeps the history, if there is one. Without a log, no append has failed.
 abbrev pub KeepsIn : {D : Type 0} → (D → Drive) → ℕ → State → List Entry → Option (KeptView D) → Type 0
 KeepsIn drive w s h None = failed_cell h ≡ None
-KeepsIn drive w s h (Some log) = KeepsLog drive w s h log
+KeepsIn drive w s h (Some log) = KeepsWaiting drive w s h log
 
 -- Both come from the same opening, or there is no log.
 abbrev pub IsSinceIn : {D : Type 0} → Option (KeptView D) → Option (KeptView D) → Type 0
@@ -84,17 +120,23 @@ abbrev pub MadeIn : {D : Type 0} → (D → Drive) → List Bool → Option (Kep
 MadeIn drive answers (Some old) (Some new) = Made answers (drive old.disk) (drive new.disk)
 MadeIn drive answers _ _ = ⊤
 
--- The cell was added, by four calls if there is a log. The log keeps the history with any entry that has this cell.
+-- The cell was added. If there is a log and no cell waits for a sync, four calls added it. The log keeps the history
+-- with any entry that has this cell.
 pub record Added {D : Type 0} (drive : D → Drive) (cell : Cell) (old new : Option (KeptView D)) : Type 0 where
   pub count : cells_in new ≤ cells_in old + 1
-  pub calls : MadeIn drive (replicate 4 true) old new
+  pub calls : at_sync_in old ≡ false → MadeIn drive (replicate 4 true) old new
   pub keeps : (w : ℕ) (s : State) (h : List Entry) (e : Entry) → IsNext w s h e cell → KeepsIn drive w s h old → KeepsIn drive w s (h ++ e ∷ []) new
 
--- At every moment between the two, a crash leaves the first cells and the history's cells, and no others. The claim
--- needs known first cells.
+-- These are the history's cells that don't wait.
+abbrev pub AreWritten : {D : Type 0} → State → List Entry → KeptView D → List Cell → Type 0
+AreWritten s h log written = cells_of s.world h ≡ written ++ log.waiting
+
+-- At every moment between the two, a crash leaves the first cells and the history's cells that didn't wait, and no
+-- others. The claim needs known first cells.
 abbrev pub LeavesAlone : {D : Type 0} → (D → Drive) → ℕ → State → List Entry → Option (KeptView D) → Option (KeptView D) → Type 0
 LeavesAlone drive w s h (Some old) (Some new) =
-    (first : List Cell) → StartsWith w first (drive old.start) → LeavesOnly (drive old.disk) (drive new.disk) (Recovers w (first ++ cells_of s.world h))
+    (first written : List Cell) → StartsWith w first (drive old.start) → AreWritten s h old written
+    → LeavesOnly (drive old.disk) (drive new.disk) (Recovers w (first ++ written))
 LeavesAlone drive w s h _ _ = ⊤
 
 -- How an append stopped at a fault: up to three of its calls went well, the next one failed, and no call came after it.
@@ -105,25 +147,27 @@ pub record BreaksIn {D : Type 0} (drive : D → Drive) (cell : Cell) (old new : 
   pub calls : MadeIn drive (replicate went_well true ++ false ∷ []) old new
   pub unstaged : went_well ≤ 1 → (w : ℕ) (s : State) (h : List Entry) (e : Entry) → IsNext w s h e cell → KeepsIn drive w s h old → LeavesAlone drive w s h old new
 
--- A device call failed at the cell of this number. The log keeps the history that ends with this failed append,
--- whatever entry it was for.
+-- A device call failed. The file may lack the cell and all that waited. The first of them has this number. The log keeps
+-- the history that ends with this failed append, whatever entry it was for.
 pub record Missed {D : Type 0} (drive : D → Drive) (cell : Cell) (number : ℕ) (old new : Option (KeptView D)) : Type 0 where
-  pub named : number ≡ cells_in old
+  pub named : number ≡ written_in old
   pub count : cells_in new ≡ cells_in old
+  pub written : written_in new ≡ written_in old
   pub rose : RoseIn drive old new
   pub breaks : BreaksIn drive cell old new
   pub keeps : (w : ℕ) (s : State) (h : List Entry) (e : Entry) (lost : Lost) → IsNext w s h e cell → lost_cells lost ≡ cell ∷ []
       → KeepsIn drive w s h old → KeepsIn drive w s (h ++ Fail number lost ∷ []) new
 
--- The image recovers to the first cells and the history's cells, with the cells of one more entry or without.
-abbrev pub RecoversWith : ℕ → List Cell → World → List Entry → Entry → List ℕ → Type 0
-RecoversWith w first world h e image = Recovers w (first ++ cells_of world h) image ⊎ Recovers w (first ++ cells_of world (h ++ e ∷ [])) image
+-- The image recovers to the first cells and the written ones, or to the first cells and all cells of this history.
+abbrev pub RecoversWith : ℕ → List Cell → List Cell → World → List Entry → List ℕ → Type 0
+RecoversWith w first written world h image = Recovers w (first ++ written) image ⊎ Recovers w (first ++ cells_of world h) image
 
--- At every moment between the two, a crash leaves the history's cells, with those of the entry or without. The claim
--- needs known first cells.
+-- At every moment between the two, a crash leaves the history's cells that didn't wait, or all cells with those of the
+-- entry. The claim needs known first cells.
 abbrev pub LeavesEither : {D : Type 0} → (D → Drive) → ℕ → State → List Entry → Entry → Option (KeptView D) → Option (KeptView D) → Type 0
 LeavesEither drive w s h e (Some old) (Some new) =
-    (first : List Cell) → StartsWith w first (drive old.start) → LeavesOnly (drive old.disk) (drive new.disk) (RecoversWith w first s.world h e)
+    (first written : List Cell) → StartsWith w first (drive old.start) → AreWritten s h old written
+    → LeavesOnly (drive old.disk) (drive new.disk) (RecoversWith w first written s.world (h ++ e ∷ []))
 LeavesEither drive w s h e _ _ = ⊤
 
 -- `LeavesEither` holds of an append, for each history that the log keeps and each entry that has this cell.
@@ -131,15 +175,12 @@ abbrev pub LeavesNext : {D : Type 0} → (D → Drive) → Cell → Option (Kept
 LeavesNext drive cell old new =
     (w : ℕ) (s : State) (h : List Entry) (e : Entry) → IsNext w s h e cell → KeepsIn drive w s h old → LeavesEither drive w s h e old new
 
--- The image recovers to the first cells and the history's cells, with the cells of all entries of `es` or without.
-abbrev pub RecoversWithAll : ℕ → List Cell → World → List Entry → List Entry → List ℕ → Type 0
-RecoversWithAll w first world h es image = Recovers w (first ++ cells_of world h) image ⊎ Recovers w (first ++ cells_of world (h ++ es)) image
-
--- At every moment between the two, a crash leaves the history's cells, with those of all entries of `es` or without.
--- The claim needs known first cells.
+-- At every moment between the two, a crash leaves the history's cells that didn't wait, or all cells with those of all
+-- entries of `es`. The claim needs known first cells.
 abbrev pub LeavesAllOrNone : {D : Type 0} → (D → Drive) → ℕ → State → List Entry → List Entry → Option (KeptView D) → Option (KeptView D) → Type 0
 LeavesAllOrNone drive w s h es (Some old) (Some new) =
-    (first : List Cell) → StartsWith w first (drive old.start) → LeavesOnly (drive old.disk) (drive new.disk) (RecoversWithAll w first s.world h es)
+    (first written : List Cell) → StartsWith w first (drive old.start) → AreWritten s h old written
+    → LeavesOnly (drive old.disk) (drive new.disk) (RecoversWith w first written s.world (h ++ es))
 LeavesAllOrNone drive w s h es _ _ = ⊤
 
 -- `LeavesAllOrNone` holds of an append of cells, for each history that the log keeps and all entries that have these
@@ -148,11 +189,11 @@ abbrev pub LeavesNextAll : {D : Type 0} → (D → Drive) → List Cell → Opti
 LeavesNextAll drive more old new =
     (w : ℕ) (s : State) (h es : List Entry) → AreNext w s h es more → KeepsIn drive w s h old → LeavesAllOrNone drive w s h es old new
 
--- The cells were added, by four calls if there is a log and a cell. The log keeps the history with all entries that
--- have these cells.
+-- The cells were added. If there is a log and a cell, and no cell waits for a sync, four calls added them. The log keeps
+-- the history with all entries that have these cells.
 pub record AddedAll {D : Type 0} (drive : D → Drive) (more : List Cell) (old new : Option (KeptView D)) : Type 0 where
   pub count : cells_in new ≤ cells_in old + length more
-  pub calls : MadeIn drive (replicate (calls_to_add more) true) old new
+  pub calls : at_sync_in old ≡ false → MadeIn drive (replicate (calls_to_add more) true) old new
   pub keeps : (w : ℕ) (s : State) (h es : List Entry) → AreNext w s h es more → KeepsIn drive w s h old → KeepsIn drive w s (h ++ es) new
 
 -- How an append of cells stopped at a fault: up to three of its calls went well, the next one failed, and no call came
@@ -163,18 +204,21 @@ pub record AllBreakIn {D : Type 0} (drive : D → Drive) (more : List Cell) (old
   pub calls : MadeIn drive (replicate went_well true ++ false ∷ []) old new
   pub unstaged : went_well ≤ 1 → (w : ℕ) (s : State) (h es : List Entry) → AreNext w s h es more → KeepsIn drive w s h old → LeavesAlone drive w s h old new
 
--- A crash now leaves the history's cells, with those of all entries of `es` or without. The claim needs known first
--- cells.
+-- A crash now leaves the history's cells that didn't wait, or all cells with those of all entries of `es`. The claim
+-- needs known first cells.
 abbrev pub LeavesNowAllOrNone : {D : Type 0} → (D → Drive) → ℕ → State → List Entry → List Entry → Option (KeptView D) → Option (KeptView D) → Type 0
 LeavesNowAllOrNone drive w s h es (Some old) (Some new) =
-    (first : List Cell) → StartsWith w first (drive old.start) → LeavesNow (drive new.disk) (RecoversWithAll w first s.world h es)
+    (first written : List Cell) → StartsWith w first (drive old.start) → AreWritten s h old written
+    → LeavesNow (drive new.disk) (RecoversWith w first written s.world (h ++ es))
 LeavesNowAllOrNone drive w s h es _ _ = ⊤
 
--- A device call failed while the cells were added. The first of them has this number. The log takes no more cells. It
--- keeps the history that ends with failed appends of this number which have lost these cells.
+-- A device call failed while the cells were added. The file may lack them and all that waited. The first of them has
+-- this number. The log takes no more cells. It keeps the history that ends with failed appends of this number which have
+-- lost these cells.
 pub record AllMissed {D : Type 0} (drive : D → Drive) (more : List Cell) (number : ℕ) (old new : Option (KeptView D)) : Type 0 where
-  pub named : number ≡ cells_in old
+  pub named : number ≡ written_in old
   pub count : cells_in new ≡ cells_in old
+  pub written : written_in new ≡ written_in old
   pub closed : failed_in new ≡ Some number
   pub rose : RoseIn drive old new
   pub breaks : AllBreakIn drive more old new
@@ -186,3 +230,26 @@ pub record AllMissed {D : Type 0} (drive : D → Drive) (more : List Cell) (numb
 abbrev pub NotAdded : {D : Type 0} → (D → Drive) → List Cell → AppendAllLost → Option (KeptView D) → Option (KeptView D) → Type 0
 NotAdded drive more (Disk number) old new = AllMissed drive more number old new
 NotAdded drive more Memory old new = new ≡ old
+
+-- All cells that waited are in the file now, by four calls if any did.
+pub record Synced {D : Type 0} (drive : D → Drive) (old new : Option (KeptView D)) : Type 0 where
+  pub none_wait : waiting_in new ≡ []
+  pub count : cells_in new ≡ cells_in old
+  pub calls : MadeIn drive (replicate (calls_to_add (waiting_in old)) true) old new
+  pub keeps : (w : ℕ) (s : State) (h : List Entry) → IsLegal w s h → KeepsIn drive w s h old → KeepsIn drive w s h new
+
+-- A device call failed while the cells that waited were written. The first of them has this number. The log takes no
+-- more cells. It keeps the history that ends with a failed append of this number.
+pub record NotSynced {D : Type 0} (drive : D → Drive) (number : ℕ) (old new : Option (KeptView D)) : Type 0 where
+  pub named : number ≡ written_in old
+  pub count : cells_in new ≡ cells_in old
+  pub written : written_in new ≡ written_in old
+  pub closed : failed_in new ≡ Some number
+  pub rose : RoseIn drive old new
+  pub keeps : (w : ℕ) (s : State) (h : List Entry) (lost : Lost) → IsLegal w s h → KeepsIn drive w s h old
+      → KeepsIn drive w s (h ++ Fail number lost ∷ []) new
+
+-- `LeavesAllOrNone` holds of a sync, for each history that the log keeps: a crash leaves the cells that didn't wait, or
+-- all.
+abbrev pub LeavesSynced : {D : Type 0} → (D → Drive) → Option (KeptView D) → Option (KeptView D) → Type 0
+LeavesSynced drive old new = (w : ℕ) (s : State) (h : List Entry) → IsLegal w s h → KeepsIn drive w s h old → LeavesAllOrNone drive w s h [] old new

@@ -3,6 +3,7 @@ pub mod Kept
 pub mod Steps
 pub mod Journal
 pub mod Counts
+pub mod Holding
 pub use Rattle.log_state.specs.Keeps
 pub use Rattle.log_state.specs.Changes
 pub use Rattle.recovery.specs.Opening

@@ -2,7 +2,7 @@ use Rattle.std.proofs.Common.{Option, Some, sym, ◌∙◌, subst}
 use Rattle.std.proofs.lemmas.Result.{on_ok_weaker, IfErr-weaker}
 use Rattle.kept_log.specs.KeptView.{KeptView}
 use Rattle.kept_log.specs.Journal.{AddedAll, NotAdded, LeavesNextAll}
-use Rattle.kept_log.proofs.BatchLemmas.{all-added-none}
+use Rattle.kept_log.proofs.InJournal.{all-added-none}
 use Rattle.kept_log.proofs.journal.Journal.append_all.Goals as goal
 
 pub returns-in_default-clause-ok : goal.returns-in_default-clause-ok

@@ -1,41 +1,72 @@
-use Rattle.std.proofs.Common.{◌+◌, ◌≤◌, length, Err, Some, refl, sym, ◌∙◌, ap, subst}
-use Rattle.split_log.specs.LogView.{LogView, most_cells}
-use Rattle.kept_log.specs.KeptView.{KeptView}
-use Rattle.kept_log.proofs.BatchLemmas.{leaves-next-all, added-all, all-missed}
+use Rattle.std.proofs.Common.{◌≤◌, ◌+◌, length, true, is_some, refl, sym, ◌∙◌, ap, subst, arith, length-append}
+use Rattle.std.proofs.lemmas.Result.{on_ok_weaker, IfErr-weaker}
+use Rattle.split_log.specs.LogView.{most_cells}
+use Rattle.kept_log.specs.KeptView.{KeptView, waiting_of}
+use Rattle.kept_log.proofs.BatchLemmas.{leaves-now, added-now, missed-now, leaves-held, added-held, missed-held, not-added-now, not-added-held}
 use Rattle.kept_log.proofs.journal.Kept.append_all.Goals as goal
-use Rattle.kept_log.proofs.journal.Kept.append_all.Goals.{in-Ok, in-Err-Disk, in-Err-Memory}
 
-pub returns-clause-ok : goal.returns-clause-ok
-returns-clause-ok g c =
-    let sound = ap (λ v. v.failed) c.self.view_is ∙ c.requires.open in
-    let room = subst (λ (v : KeptView g.row.D.Denot). v.cells + length c.args.cells.now ≤ most_cells) (sym c.self.view_is) c.requires.room in
-    elim c.match-append_all.branch [
-      | in-Ok w ↦ rw (w.result-is, ← c.self.view_is)
-          (added-all g.D.LogDisk.drive c.args.cells.now _ _ sound room (record { start = refl; first = refl }) c.append_all.ensures.later c.append_all.ensures.any_moment w.in-Ok.ensures.ok)
-      | in-Err-Disk w ↦ rw w.result-is tt
-      | in-Err-Memory w ↦ rw w.result-is tt
-    ]
+pub returns-in-None-clause-ok : goal.returns-in-None-clause-ok
+returns-in-None-clause-ok g c =
+    let none = ap waiting_of c.in-None.is in
+    let room = subst (λ (v : KeptView g.row.D.Denot). v.cells + length v.waiting + length c.args.cells.now ≤ most_cells) (sym c.self.view_is) c.requires.room in
+    rw (← c.self.view_is)
+    (on_ok_weaker c.append_all_now.result (λ adds.
+    (added-now g.D.LogDisk.drive c.args.cells.now _ _ (ap (λ v. v.failed) c.self.view_is ∙ c.requires.open) none refl (omega (arith, room, ap length none))
+    (record { start = refl; first = refl; at_sync = refl }) c.append_all_now.ensures.later c.append_all_now.ensures.any_moment adds)) c.append_all_now.ensures.ok)
 
-pub returns-clause-lost : goal.returns-clause-lost
-returns-clause-lost g c =
+pub returns-in-None-clause-lost : goal.returns-in-None-clause-lost
+returns-in-None-clause-lost g c =
+    let none = ap waiting_of c.in-None.is in
+    let room = subst (λ (v : KeptView g.row.D.Denot). v.cells + length v.waiting + length c.args.cells.now ≤ most_cells) (sym c.self.view_is) c.requires.room in
+    rw (← c.self.view_is)
+    (IfErr-weaker c.append_all_now.result _ _ (not-added-now g.D.LogDisk.drive c.args.cells.now _ _
+    (missed-now g.D.LogDisk.drive c.args.cells.now _ _ (ap (λ v. v.failed) c.self.view_is ∙ c.requires.open) none refl (omega (arith, room, ap length none))
+    (record { start = refl; first = refl; at_sync = refl }) c.append_all_now.ensures.later c.append_all_now.ensures.any_moment)
+    (record { start = refl; first = refl; at_sync = refl }) refl) c.append_all_now.ensures.lost)
+
+pub returns-in-None-clause-any_moment : goal.returns-in-None-clause-any_moment
+returns-in-None-clause-any_moment g c =
+    let none = ap waiting_of c.in-None.is in
     let inside = c.self.inside in
-    let sound = ap (λ v. v.failed) c.self.view_is ∙ c.requires.open in
-    let room = subst (λ (v : KeptView g.row.D.Denot). v.cells + length c.args.cells.now ≤ most_cells) (sym c.self.view_is) c.requires.room in
-    elim c.match-append_all.branch [
-      | in-Ok w ↦ rw w.result-is tt
-      | in-Err-Disk w ↦ rw (w.result-is, ← c.self.view_is)
-          (all-missed g.D.LogDisk.drive c.args.cells.now _ _ sound room (record { start = refl; first = refl }) c.append_all.ensures.later c.append_all.ensures.any_moment _
-          (c.append_all.ensures.disk _ (w.in-Err-Disk.is ∙ ap Err w.in-Err-Disk.field-0-is)))
-      | in-Err-Memory w ↦ rw (w.result-is, ← c.self.view_is)
-          (ap (λ (l : LogView g.row.D.Denot). Some (record { disk = l.disk; cells = l.cells; failed = l.failed; start = inside.start.value; first = inside.first.value }))
-          (c.append_all.ensures.memory_untouched (w.in-Err-Memory.is ∙ ap Err w.in-Err-Memory.field-0-is)))
-    ]
+    let log = c.append_all_now.new.log in
+    let new : KeptView g.row.D.Denot = record { disk = log.disk; cells = log.cells; failed = log.failed; start = inside.start.value; first = inside.first.value; waiting = waiting_of inside.waiting; at_sync = is_some inside.waiting } in
+    let room = subst (λ (v : KeptView g.row.D.Denot). v.cells + length v.waiting + length c.args.cells.now ≤ most_cells) (sym c.self.view_is) c.requires.room in
+    rw (← c.self.view_is)
+    ((leaves-now g.D.LogDisk.drive c.args.cells.now _ new (ap (λ v. v.failed) c.self.view_is ∙ c.requires.open) none refl (omega (arith, room, ap length none))
+    (record { start = refl; first = refl; at_sync = refl }) c.append_all_now.ensures.later c.append_all_now.ensures.any_moment))
 
-pub returns-clause-any_moment : goal.returns-clause-any_moment
-returns-clause-any_moment g c =
-    let log = c.append_all.new.self in
+pub returns-in-Some-clause-ok : goal.returns-in-Some-clause-ok
+returns-in-Some-clause-ok g c =
+    let held = ap waiting_of c.in-Some.is in
+    let waits = ap is_some c.in-Some.is in
+    let room = subst (λ (v : KeptView g.row.D.Denot). v.cells + length v.waiting + length c.args.cells.now ≤ most_cells) (sym c.self.view_is) c.requires.room in
+    rw (← c.self.view_is)
+    (on_ok_weaker c.hold_all.result (λ is.
+    (added-held g.D.LogDisk.drive c.args.cells.now _ _ (ap (λ v. v.failed) c.self.view_is ∙ c.requires.open) _ held waits
+    (omega (arith, room, ap length held, length-append c.in-Some.waiting c.args.cells.now))
+    (record { start = refl; first = refl; at_sync = sym waits }) c.hold_all.ensures.later c.hold_all.ensures.any_moment is)) c.hold_all.ensures.ok)
+
+pub returns-in-Some-clause-lost : goal.returns-in-Some-clause-lost
+returns-in-Some-clause-lost g c =
+    let held = ap waiting_of c.in-Some.is in
+    let waits = ap is_some c.in-Some.is in
+    let room = subst (λ (v : KeptView g.row.D.Denot). v.cells + length v.waiting + length c.args.cells.now ≤ most_cells) (sym c.self.view_is) c.requires.room in
+    rw (← c.self.view_is)
+    (IfErr-weaker c.hold_all.result _ _ (not-added-held g.D.LogDisk.drive c.args.cells.now c.in-Some.waiting _ _
+    (missed-held g.D.LogDisk.drive c.args.cells.now _ _ (ap (λ v. v.failed) c.self.view_is ∙ c.requires.open) _ held waits
+    (omega (arith, room, ap length held, length-append c.in-Some.waiting c.args.cells.now))
+    (record { start = refl; first = refl; at_sync = sym waits }) c.hold_all.ensures.later c.hold_all.ensures.any_moment)
+    (record { start = refl; first = refl; at_sync = sym waits }) held) c.hold_all.ensures.lost)
+
+pub returns-in-Some-clause-any_moment : goal.returns-in-Some-clause-any_moment
+returns-in-Some-clause-any_moment g c =
+    let held = ap waiting_of c.in-Some.is in
+    let waits = ap is_some c.in-Some.is in
     let inside = c.self.inside in
-    let new : KeptView g.row.D.Denot = record { disk = log.disk; cells = log.cells; failed = log.failed; start = inside.start.value; first = inside.first.value } in
-    let sound = ap (λ v. v.failed) c.self.view_is ∙ c.requires.open in
-    let room = subst (λ (v : KeptView g.row.D.Denot). v.cells + length c.args.cells.now ≤ most_cells) (sym c.self.view_is) c.requires.room in
-    rw (← c.self.view_is) (leaves-next-all g.D.LogDisk.drive c.args.cells.now _ new sound room (record { start = refl; first = refl }) c.append_all.ensures.later c.append_all.ensures.any_moment)
+    let log = c.hold_all.new.log in
+    let new : KeptView g.row.D.Denot = record { disk = log.disk; cells = log.cells; failed = log.failed; start = inside.start.value; first = inside.first.value; waiting = c.hold_all.new.waiting; at_sync = true } in
+    let room = subst (λ (v : KeptView g.row.D.Denot). v.cells + length v.waiting + length c.args.cells.now ≤ most_cells) (sym c.self.view_is) c.requires.room in
+    rw (← c.self.view_is)
+    ((leaves-held g.D.LogDisk.drive c.args.cells.now _ new (ap (λ v. v.failed) c.self.view_is ∙ c.requires.open) _ held waits
+    (omega (arith, room, ap length held, length-append c.in-Some.waiting c.args.cells.now))
+    (record { start = refl; first = refl; at_sync = sym waits }) c.hold_all.ensures.later c.hold_all.ensures.any_moment))
