@@ -17,9 +17,10 @@ use Rattle.plain_list.proofs.Histories.{state_after-world}
 use Rattle.disk_trait.specs.Drive.{Drive, KeepsLaws}
 use Rattle.log_state.specs.Changes.{cells_of}
 use Rattle.kept_log.specs.KeptView.{KeptView}
-use Rattle.kept_log.specs.Journal.{KeepsIn, IsSinceIn, RoseIn, LeavesAllOrNone, cells_in}
+use Rattle.kept_log.specs.Journal.{KeepsIn, IsSinceIn, RoseIn, LeavesAllOrNone, cells_in, written_in}
 use Rattle.kept_log.specs.Steps.{AreNext}
-use Rattle.kept_log.specs.declared.journal.AppendAllLost.TheVariants.{Disk, Memory}
+use Rattle.kept_log.specs.declared.faults.AppendAllLost.TheVariants.{Disk, Memory}
+use Rattle.kept_log.proofs.Waiting.{in-failed}
 use Rattle.point_table.specs.Drafts.{DraftView}
 use Rattle.point_table.specs.TableView.{TableView}
 use Rattle.commit_book.specs.BatchSteps.{Plans, CanStepAll, Adds, flagged_cells}
@@ -34,8 +35,7 @@ use Rattle.commit_book.specs.declared.faults.BookFault.TheVariants.{HistoryFull,
 use Rattle.commit_book.proofs.BatchLemmas.{flagged_cells-calls, flagged_cells-few, batch_fails-cells, batch_fails-any}
 use Rattle.commit_book.proofs.BatchStates.{calls_next, in-calls}
 use Rattle.commit_book.proofs.EarlyReturns.{since-same}
-use Rattle.commit_book.proofs.OnLog.{in-failed}
-use Rattle.commit_book.proofs.QuietBatches.{leaves-none}
+use Rattle.kept_log.proofs.InJournal.{leaves-still}
 use Rattle.commit_book.proofs.RefusalLemmas.{neither, going_on}
 
 -- what lets a batch be made
@@ -100,7 +100,7 @@ module _ {I D P : Type 0} (drive : D → Drive) (w : ℕ) (o : State) (old : Ins
   -- the records may be added
   pub can_add : cells_in old.journal + most_changes ops ≤ most_cells → CanStepAll cells old.journal
   can_add room = record {
-    going = in-failed drive w o h old.journal inside.on_log going;
+    going = in-failed drive w o h old.journal inside.on_log ∙ going;
     room = omega (arith, room, ap length plan.cells_are, flagged_cells-few changes ops);
   }
 
@@ -123,13 +123,13 @@ module _ {I D P : Type 0} (drive : D → Drive) (w : ℕ) (o : State) (old : Ins
   made laws session row false log answers is same = subst (λ (l : Option (KeptView D)). Made session row l) (sym same) (record {
     keeps = in-calls drive w o h session row ops old.journal inside.legal going is inside.on_log;
     since = since-same old.journal;
-    moments = leaves-none drive w o h (batch_calls session row ops) old.journal laws inside.on_log going;
+    moments = leaves-still drive w o h (batch_calls session row ops) old.journal laws inside.on_log going;
   })
 
   -- a batch whose append failed
   pub record Missed (session row cell : ℕ) (log : Option (KeptView D)) : Type 0 where
     pub change : list_any is_change (answers_to before ops) ≡ true
-    pub cell_is : cell ≡ cells_in old.journal
+    pub cell_is : cell ≡ written_in old.journal
     pub keeps : KeepsIn drive w o (h ++ batch_fails cell before session row ops) log
     pub since : IsSinceIn old.journal log
     pub moments : LeavesAllOrNone drive w o h (batch_calls session row ops) old.journal log

@@ -23,6 +23,7 @@ use Rattle.plain_list.proofs.Histories.{has_failed, state_after-append, state_af
 use Rattle.disk_trait.specs.Drive.{Drive}
 use Rattle.kept_log.specs.Journal.{KeepsIn, IsSinceIn, cells_in}
 use Rattle.kept_log.specs.Counts.{first_in, count_after}
+use Rattle.kept_log.proofs.Waiting.{in-named, in-count}
 use Rattle.commit_book.specs.BookInside.{IsInside, book_of}
 use Rattle.point_table.specs.Changes.{bases_of}
 use Rattle.point_table.specs.Divisions.{Folds, Divides}
@@ -32,7 +33,7 @@ use Rattle.commit_book.specs.KeptBases.{KeepsBase}
 use Rattle.commit_book.specs.Room.{most_events_to_begin, most_cells_to_begin, has_no_room, BeginsInRoom}
 use Rattle.commit_book.specs.declared.book.Book.TheInside.{Inside}
 use Rattle.commit_book.proofs.BookSteps.{same_names}
-use Rattle.commit_book.proofs.OnLog.{in-named, in-count, in-first}
+use Rattle.commit_book.proofs.OnLog.{in-first}
 use Rattle.commit_book.proofs.Limits.{begin-less}
 use Rattle.commit_book.proofs.KeptLemmas.{KeepsBases-push, BeginsInRoom-push, KeepsBase-bases, KeepsBase-begun, KeepsBase-replaced, KeepsBase-split}
 use Rattle.plain_list.proofs.SplitHistories.{tidy-history, begun-number}
@@ -63,7 +64,7 @@ is_book drive w b inside are rows = record {
   room = inside.begins;
   few = inside.few;
   on_log = inside.on_log;
-  named = in-named drive w b.opening b.history.entries b.journal inside.on_log;
+  named = λ n. in-named drive w b.opening b.history.entries b.journal n inside.on_log;
 }
 
 -- there is room where there are few cells and events

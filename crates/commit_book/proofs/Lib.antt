@@ -6,7 +6,6 @@ pub mod KeptLemmas
 pub mod LastChanges
 pub mod Limits
 pub mod OnLog
-pub mod QuietBatches
 pub mod RefusalLemmas
 pub mod Rotations
 pub mod Sent
@@ -21,3 +20,4 @@ pub mod EarlyReturns
 pub mod BatchLemmas
 pub mod BatchStates
 pub mod BatchCalls
+pub mod Syncing

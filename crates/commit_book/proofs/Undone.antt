@@ -18,8 +18,9 @@ use Rattle.plain_list.specs.State.{State, OpenSplit, IsLegal}
 use Rattle.disk_trait.specs.Drive.{Drive, KeepsLaws}
 use Rattle.log_state.specs.Changes.{lost_cells}
 use Rattle.kept_log.specs.KeptView.{KeptView}
-use Rattle.kept_log.specs.Journal.{cells_in, KeepsIn, RoseIn, LeavesEither, IsSinceIn}
+use Rattle.kept_log.specs.Journal.{cells_in, written_in, KeepsIn, RoseIn, LeavesEither, IsSinceIn}
 use Rattle.kept_log.proofs.InJournal.{in-call, leaves-quiet}
+use Rattle.kept_log.proofs.Waiting.{in-failed}
 use Rattle.point_table.specs.TableView.{TableView}
 use Rattle.point_table.specs.Updates.{TellsIf}
 use Rattle.commit_book.specs.BookInside.{IsInside, book_of}
@@ -34,7 +35,7 @@ use Rattle.commit_book.specs.declared.steps.Step.{Step}
 use Rattle.commit_book.proofs.BookStates.{inside-fail}
 use Rattle.commit_book.proofs.EarlyReturns.{since-same}
 use Rattle.commit_book.proofs.Limits.{most-le}
-use Rattle.commit_book.proofs.OnLog.{in-most, in-failed}
+use Rattle.commit_book.proofs.OnLog.{in-most}
 use Rattle.commit_book.proofs.UpdateCalls.{fewer_cells}
 
 -- a book that took memory, or had none, with room for an entry of each open split
@@ -62,7 +63,7 @@ pub can_step : {I D P : Type 0} (drive : D → Drive) (w : ℕ) (o : State) (b :
 can_step drive w o b events step cell has inside going room same promised = record {
   cell = cell;
   cell_is = has;
-  going = in-failed drive w o b.history.entries b.journal inside.on_log going;
+  going = in-failed drive w o b.history.entries b.journal inside.on_log ∙ going;
   room = fewer_cells (cells_in b.journal) (in-most drive w o b.history.entries b.journal inside.on_log) room;
   promised = promised;
   few = omega (arith, ap length same, inside.few, most-le b.history.kept);
@@ -78,12 +79,12 @@ module _ {I D P : Type 0} (drive : D → Drive) (w : ℕ) (o : State) (old : Ins
       → table ≡ old.table → splits.splits ≡ old.splits.splits → splits.begun ≡ old.splits.begun
       → Told {A = A} (Takes drive) (Loses drive) a b (Err why) → IsInside {I = I} {P = P} drive w o (record { table = table; splits = splits; history = b.history.now; journal = b.journal.now; opening = opening })
   inside-undone A table splits opening n undone.Lost a b few step events log room same opens begun told =
-      let ends : EndsStep drive a.lost (Fail (cells_in a.journal.now) a.lost) (record { entries = h; room = n; kept = old.history.kept }) b.history.now a.journal.now b.journal.now =
-      subst (λ (v : Events). EndsStep drive a.lost (Fail (cells_in a.journal.now) a.lost) v b.history.now a.journal.now b.journal.now) events told.ends in
-      let entries : b.history.now.entries ≡ h ++ Fail (cells_in a.journal.now) a.lost ∷ [] = ap (λ (v : Events). v.entries) ends.events in
+      let ends : EndsStep drive a.lost (Fail (written_in a.journal.now) a.lost) (record { entries = h; room = n; kept = old.history.kept }) b.history.now a.journal.now b.journal.now =
+      subst (λ (v : Events). EndsStep drive a.lost (Fail (written_in a.journal.now) a.lost) v b.history.now a.journal.now b.journal.now) events told.ends in
+      let entries : b.history.now.entries ≡ h ++ Fail (written_in a.journal.now) a.lost ∷ [] = ap (λ (v : Events). v.entries) ends.events in
       let kept = ends.keeps w o step (subst (λ (l : Option (KeptView D)). KeepsIn drive w o h l) (sym log) inside.on_log) in
       inside-fail drive w o old _ inside going (subst (λ (g : List Entry). KeepsIn drive w o g b.journal.now) (sym entries) kept) (subst (λ (l : Option (KeptView D)). IsSinceIn l b.journal.now) log ends.since)
-      (ap (λ (v : Events). v.kept) ends.events) (cells_in a.journal.now) a.lost few entries
+      (ap (λ (v : Events). v.kept) ends.events) (written_in a.journal.now) a.lost few entries
       (ap (λ (t : TableView). t.world) same) (ap (λ (t : TableView). t.leaves) same) opens begun
   inside-undone A table splits opening n undone.Memory a b few step events log room same opens begun told =
       let entries : b.history.now.entries ≡ h = ap (λ (s : Step D). s.history.now.entries) told ∙ ap (λ (v : Events). v.entries) events in
@@ -108,8 +109,8 @@ module _ {I D P : Type 0} (drive : D → Drive) (w : ℕ) (o : State) (old : Ins
   pub moments-undone : (A : Type 0) → ((d : D) → KeepsLaws (drive d)) → (n : ℕ) (why : Undone) (a b : Step D) → IsStep w o h a.lost → a.history.now ≡ record { entries = h; room = n; kept = old.history.kept } → a.journal.now ≡ old.journal
       → Told {A = A} (Takes drive) (Loses drive) a b (Err why) → LeavesEither drive w o h (entry_of a.lost) old.journal b.journal.now
   moments-undone A laws n undone.Lost a b step events log told =
-      let ends : EndsStep drive a.lost (Fail (cells_in a.journal.now) a.lost) (record { entries = h; room = n; kept = old.history.kept }) b.history.now a.journal.now b.journal.now =
-      subst (λ (v : Events). EndsStep drive a.lost (Fail (cells_in a.journal.now) a.lost) v b.history.now a.journal.now b.journal.now) events told.ends in
+      let ends : EndsStep drive a.lost (Fail (written_in a.journal.now) a.lost) (record { entries = h; room = n; kept = old.history.kept }) b.history.now a.journal.now b.journal.now =
+      subst (λ (v : Events). EndsStep drive a.lost (Fail (written_in a.journal.now) a.lost) v b.history.now a.journal.now b.journal.now) events told.ends in
       subst (λ (l : Option (KeptView D)). LeavesEither drive w o h (entry_of a.lost) l b.journal.now) log
       (ends.any_moment w o step (subst (λ (l : Option (KeptView D)). KeepsIn drive w o h l) (sym log) inside.on_log))
   moments-undone A laws n undone.Memory a b step events log told =
@@ -118,15 +119,15 @@ module _ {I D P : Type 0} (drive : D → Drive) (w : ℕ) (o : State) (old : Ins
 
   -- where the drive failed the book is closed, and else it is as it was
   pub refused-undone : (A : Type 0) (table : TableView) (n cell : ℕ) (why : Undone) (a b : Step D) → a.history.now ≡ record { entries = h; room = n; kept = old.history.kept } → a.journal.now ≡ old.journal → table ≡ old.table
-      → WouldChange (book_of old) a.lost → cell ≡ cells_in b.journal.now → Told {A = A} (Takes drive) (Loses drive) a b (Err why)
+      → WouldChange (book_of old) a.lost → cell ≡ written_in b.journal.now → Told {A = A} (Takes drive) (Loses drive) a b (Err why)
       → LeavesRefused drive a.lost (book_of old) (record { leaves = table.leaves; opening = old.opening; entries = b.history.now.entries; bucket = table.size; log = b.journal.now; kept = b.history.now.kept }) (fault_of why cell)
   refused-undone A table n cell undone.Lost a b events log same change cell_is told =
-      let at : cell ≡ cells_in a.journal.now = cell_is ∙ told.count in
+      let at : cell ≡ written_in a.journal.now = cell_is ∙ told.written in
       record {
         entries =
-            ap (λ (v : Events). v.entries) told.ends.events ∙ ap (λ (v : Events). v.entries ++ Fail (cells_in a.journal.now) a.lost ∷ []) events
+            ap (λ (v : Events). v.entries) told.ends.events ∙ ap (λ (v : Events). v.entries ++ Fail (written_in a.journal.now) a.lost ∷ []) events
             ∙ ap (λ m. h ++ Fail m a.lost ∷ []) (sym at);
-        cell_is = at ∙ ap (λ (l : Option (KeptView D)). cells_in l) log;
+        cell_is = at ∙ ap (λ (l : Option (KeptView D)). written_in l) log;
         leaves = ap (λ (t : TableView). t.leaves) same;
         rose = subst (λ (l : Option (KeptView D)). RoseIn drive l b.journal.now) log told.rose;
         change = change;

@@ -12,8 +12,8 @@ use Rattle.split_log.specs.LogView.{most_cells}
 use Rattle.log_state.specs.Changes.{change_cells}
 use Rattle.kept_log.specs.KeptView.{KeptView}
 use Rattle.kept_log.specs.Journal.{AddedAll, AllMissed, LeavesNextAll, IsSinceIn, cells_in, failed_in}
-use Rattle.kept_log.specs.declared.journal.AppendAllLost.{AppendAllLost}
-use Rattle.kept_log.specs.declared.journal.AppendAllLost.TheVariants.{Disk, Memory}
+use Rattle.kept_log.specs.declared.faults.AppendAllLost.{AppendAllLost}
+use Rattle.kept_log.specs.declared.faults.AppendAllLost.TheVariants.{Disk, Memory}
 use Rattle.point_table.specs.Drafts.{DraftView, Drafts}
 use Rattle.point_table.specs.TableView.{TableView}
 use Rattle.commit_book.specs.declared.batch_steps.BatchStep.{BatchStep}

@@ -11,7 +11,7 @@ use Rattle.plain_list.specs.State.{state_after}
 use Rattle.plain_list.specs.Size.{full_leaf}
 use Rattle.disk_trait.specs.Drive.{Drive}
 use Rattle.point_table.specs.Changes.{AreSettled}
-use Rattle.kept_log.specs.Journal.{cells_in, RoseIn, LeavesAllOrNone}
+use Rattle.kept_log.specs.Journal.{cells_in, written_in, RoseIn, LeavesAllOrNone}
 use Rattle.commit_book.specs.Answers.{is_ask}
 use Rattle.commit_book.specs.BookView.{BookView}
 use Rattle.commit_book.specs.IsBook.{most_events}
@@ -47,11 +47,12 @@ abbrev pub batch_refusal : {D : Type 0} → BookView D → List Op → Option Bo
 batch_refusal b ops =
     first_of (closed_refusal b.entries) (first_of (entries_refusal b.kept (length ops) b.entries) (records_refusal (most_changes ops) (cells_in b.log)))
 
--- The append of the batch's records failed, and `cell` is the number of the first one. The history ends with a failed
--- append for each operation that would have changed the world. There is one at least. The book is closed.
+-- The append of the batch's records failed, and of those that waited before them. `cell` is the number of records in the
+-- file before: the first record that the file may lack. The history ends with a failed append for each operation that
+-- would have changed the world. There is one at least. The book is closed.
 pub record ClosesAll {D : Type 0} (drive : D → Drive) (session row : ℕ) (ops : List Op) (old new : BookView D) (cell : ℕ) : Type 0 where
   pub entries : new.entries ≡ old.entries ++ batch_fails cell (world_after old.opening.world old.entries) session row ops
-  pub cell_is : cell ≡ cells_in old.log
+  pub cell_is : cell ≡ written_in old.log
   pub leaves : new.leaves ≡ old.leaves
   pub rose : RoseIn drive old.log new.log
   pub change : list_any is_change (answers_to (world_after old.opening.world old.entries) ops) ≡ true
@@ -61,7 +62,7 @@ abbrev pub LeavesRefusedAll : {D : Type 0} → (D → Drive) → ℕ → ℕ →
 LeavesRefusedAll drive session row ops old new (Disk cell) = ClosesAll drive session row ops old new cell
 LeavesRefusedAll drive session row ops old new _ = new ≡ old
 
--- At every moment of a batch a crash leaves the records of the entries before it. The records of all its entries may
--- follow them, or none. This holds if no append had failed and the log's content at its opening is known.
+-- At every moment of a batch a crash leaves the records of the entries before it that were written, or those of all
+-- entries before it and of all its own. This holds if no append had failed and the log's content at its opening is known.
 abbrev pub LeavesAllCells : {D : Type 0} → (D → Drive) → ℕ → List Entry → BookView D → BookView D → Type 0
 LeavesAllCells drive w es old new = failed_cell old.entries ≡ None → LeavesAllOrNone drive w old.opening old.entries es old.log new.log

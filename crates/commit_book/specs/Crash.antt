@@ -6,7 +6,8 @@ use Rattle.disk_trait.specs.Drive.{Drive}
 use Rattle.kept_log.specs.Journal.{LeavesEither}
 use Rattle.commit_book.specs.BookView.{BookView}
 
--- At every moment of a call a crash leaves the records of the entries before it. The record of the call's own entry may
--- follow them. This holds if no append had failed and the log's content at its opening is known.
+-- At every moment of a call a crash leaves the records of the entries before it that were written, or those of all entries
+-- before it and the record of its own. If no record waits, all were written. This holds if no append had failed and the
+-- log's content at its opening is known.
 abbrev pub LeavesCells : {D : Type 0} → (D → Drive) → ℕ → Entry → BookView D → BookView D → Type 0
 LeavesCells drive w own old new = failed_cell old.entries ≡ None → LeavesEither drive w old.opening old.entries own old.log new.log

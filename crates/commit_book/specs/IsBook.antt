@@ -5,7 +5,7 @@ use Rattle.plain_list.specs.State.{State, ComesBySplits, IsLegal, state_after}
 use Rattle.plain_list.specs.History.{world_after, failed_cell}
 use Rattle.index_layer.specs.Stands.{Stands}
 use Rattle.disk_trait.specs.Drive.{Drive}
-use Rattle.kept_log.specs.Journal.{cells_in, KeepsIn, IsSinceIn}
+use Rattle.kept_log.specs.Journal.{written_in, KeepsIn, IsSinceIn}
 use Rattle.kept_log.specs.Counts.{first_in}
 use Rattle.commit_book.specs.BookView.{BookView}
 use Rattle.commit_book.specs.KeptBases.{KeepsBases}
@@ -29,7 +29,7 @@ pub record IsOpening (w : ℕ) (s : State) : Type 0 where
 
 -- The history is legal from the state at which the book began, and the index stands for its world, with its leaves. The
 -- base of each leaf whose split is open has exactly the leaf's rows at the begin. Each split began while there was
--- room. If there is a log, it keeps the history, and a failed append names its number of records.
+-- room. If there is a log, it keeps the history, and a failed append names the number of records in the file.
 pub record IsBook {D : Type 0} (drive : D → Drive) (w : ℕ) (b : BookView D) : Type 0 where
   pub opening : IsOpening w b.opening
   pub legal : IsLegal w b.opening b.entries
@@ -38,10 +38,10 @@ pub record IsBook {D : Type 0} (drive : D → Drive) (w : ℕ) (b : BookView D) 
   pub room : BeginsInRoom b.kept (first_in b.log) b.opening.world b.entries
   pub few : length b.entries ≤ most_events b.kept
   pub on_log : KeepsIn drive w b.opening b.entries b.log
-  pub named : (n : ℕ) → failed_cell b.entries ≡ Some n → n ≡ cells_in b.log
+  pub named : (n : ℕ) → failed_cell b.entries ≡ Some n → n ≡ written_in b.log
 
--- the same opening state, bucket size, opening of the log, and kind of history: only a rotation changes the first three,
--- and nothing changes the kind of a history that has an entry
+-- the same opening state, bucket size, opening of the log, way of writing it, and kind of history: only a rotation changes
+-- the first three, and nothing changes the last two in a history that has an entry
 pub record SameOrigin {D : Type 0} (old new : BookView D) : Type 0 where
   pub opening : new.opening ≡ old.opening
   pub bucket : new.bucket ≡ old.bucket

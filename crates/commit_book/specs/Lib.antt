@@ -17,3 +17,4 @@ pub mod SplitSteps
 pub mod Splits
 pub mod SplitsView
 pub mod Steps
+pub mod Syncs

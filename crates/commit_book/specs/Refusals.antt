@@ -16,7 +16,7 @@ use Rattle.plain_list.specs.State.{State, OpenSplit, split_name, is_leaf, state_
 use Rattle.disk_trait.specs.Drive.{Drive}
 use Rattle.split_prepare.specs.Prepared.{PreparedView}
 pub use Rattle.split_log.specs.LogView.{most_cells}
-use Rattle.kept_log.specs.Journal.{cells_in, RoseIn}
+use Rattle.kept_log.specs.Journal.{cells_in, written_in, RoseIn}
 use Rattle.commit_book.specs.BookView.{BookView}
 use Rattle.commit_book.specs.IsBook.{most_events}
 pub use Rattle.commit_book.specs.Room.{most_events_to_begin, most_cells_to_begin, has_no_room}
@@ -51,10 +51,11 @@ abbrev pub WouldChange : {D : Type 0} → BookView D → Lost → Type 0
 WouldChange b (lost.Call session row op) = is_change (answer_of (world_after b.opening.world b.entries) op) ≡ true
 WouldChange b _ = ⊤
 
--- The append of a record failed. The history ends with the entry of the lost step, and the book is closed.
+-- An append failed. The history ends with the entry of the lost step, and the book is closed. `cell` is the number of
+-- records in the file before: the first record that the file may lack.
 pub record Closes {D : Type 0} (drive : D → Drive) (lost : Lost) (old new : BookView D) (cell : ℕ) : Type 0 where
   pub entries : new.entries ≡ old.entries ++ Fail cell lost ∷ []
-  pub cell_is : cell ≡ cells_in old.log
+  pub cell_is : cell ≡ written_in old.log
   pub leaves : new.leaves ≡ old.leaves
   pub rose : RoseIn drive old.log new.log
   pub change : WouldChange old lost

@@ -11,7 +11,7 @@ use Rattle.disk_trait.specs.Drive.{Drive}
 use Rattle.split_log.specs.LogView.{most_cells}
 use Rattle.log_state.specs.Changes.{cells_of, lost_cells}
 use Rattle.kept_log.specs.KeptView.{KeptView}
-use Rattle.kept_log.specs.Journal.{KeepsIn, RoseIn, IsSinceIn, LeavesEither, cells_in, failed_in}
+use Rattle.kept_log.specs.Journal.{KeepsIn, RoseIn, IsSinceIn, LeavesEither, cells_in, written_in, failed_in}
 use Rattle.commit_book.specs.Events.{Events}
 use Rattle.commit_book.specs.declared.faults.BookFault.{BookFault}
 use Rattle.commit_book.specs.declared.faults.BookFault.TheVariants.{Disk, Memory}
@@ -40,8 +40,8 @@ pub record CanStep {D : Type 0} (step : Lost) (events : Events) (log : Option (K
   pub promised : 0 < events.room
   pub few : length events.entries < 2 ^ 63
 
--- A step was tried. This entry ends the history, and the log keeps it. At every moment a crash leaves the records from
--- before, or these and the step's own record.
+-- A step was tried. This entry ends the history, and the log keeps it. At every moment a crash leaves the records that were
+-- written before, or all records from before and the step's own.
 pub record EndsStep {D : Type 0} (drive : D → Drive) (step : Lost) (last : Entry) (before after : Events) (old new : Option (KeptView D)) : Type 0 where
   pub events : after ≡ record before { entries = before.entries ++ last ∷ []; room = before.room - 1 }
   pub keeps : (w : ℕ) (s : State) → IsStep w s before.entries step → KeepsIn drive w s before.entries old → KeepsIn drive w s (before.entries ++ last ∷ []) new
@@ -58,11 +58,11 @@ pub record Takes {D : Type 0} (drive : D → Drive) (old new : Step D) : Type 0 
   pub same : SameStep old new
   pub ends : EndsStep drive old.lost (entry_of old.lost) old.history.now new.history.now old.journal.now new.journal.now
 
--- the drive failed, so the step was lost at the log's next record
+-- the drive failed, so the step was lost at the first record that is not in the file
 pub record Loses {D : Type 0} (drive : D → Drive) (old new : Step D) : Type 0 where
   pub same : SameStep old new
-  pub ends : EndsStep drive old.lost (Fail (cells_in old.journal.now) old.lost) old.history.now new.history.now old.journal.now new.journal.now
-  pub count : cells_in new.journal.now ≡ cells_in old.journal.now
+  pub ends : EndsStep drive old.lost (Fail (written_in old.journal.now) old.lost) old.history.now new.history.now old.journal.now new.journal.now
+  pub written : written_in new.journal.now ≡ written_in old.journal.now
   pub rose : RoseIn drive old.journal.now new.journal.now
 
 -- the fault of a book for a step that was not taken

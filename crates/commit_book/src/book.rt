@@ -22,6 +22,7 @@ mod batches;
 mod room;
 mod rotation;
 mod splits;
+mod syncing;
 
 use crate::faults::BookFault;
 use crate::history::History;
@@ -75,7 +76,7 @@ pub struct BookParts<I: Index, D: LogDisk> {
 }
 
 /// The sequential core of the store. A change or a step of a split is made after its record is in the log, if there is
-/// a log.
+/// a log. After `at_sync` the record waits in memory until `sync`.
 #[derive(Drop)]
 pub struct Book<I: Index, D: LogDisk> {
     /// The objects after the whole history.
@@ -170,14 +171,14 @@ impl<I: Index, D: LogDisk> Book<I, D> {
         self.history.calls()
     }
 
-    /// Whether there is a log. If so, each change waits for its device.
+    /// Whether there is a log. If so, each change waits for its device, unless the records wait for `sync`.
     pub fn has_log(&self) -> bool
         ensures { result ≡ is_some self.now.log }
     {
         self.journal.has_log()
     }
 
-    /// How many records the log has: 0 without a log.
+    /// How many records the log has, those that wait for `sync` among them: 0 without a log.
     pub fn cells(&self) -> u64
         ensures cells { result ≡ cells_in self.now.log }
         ensures book { IsBook D.drive I.WIDTH self.now }
@@ -186,7 +187,8 @@ impl<I: Index, D: LogDisk> Book<I, D> {
         self.journal.cells()
     }
 
-    /// The record whose append failed, or `None`. After a failure the book takes no more calls.
+    /// The first record that the file may lack because an append failed, or `None`. After a failure the book takes no more
+    /// calls.
     pub fn closed(&self) -> Option<u64>
         ensures closed { result ≡ failed_cell self.now.entries }
         ensures book { IsBook D.drive I.WIDTH self.now }
@@ -233,7 +235,7 @@ impl<I: Index, D: LogDisk> Book<I, D> {
         let answer = match self.table.update(&op, self.splits.as_slice(), &mut step) {
             Ok(answer) => answer,
             Err(undone) => {
-                let cell = self.journal.cells();
+                let cell = self.journal.written();
                 self.keep();
                 return Err(fault_of(undone, cell));
             }
@@ -322,7 +324,7 @@ impl<I: Index, D: LogDisk> Book<I, D> {
         self.history.is_still_since(events as usize)
     }
 
-    /// Takes the book apart.
+    /// Takes the book apart. Records that wait are not written: call `sync` before.
     pub fn into_parts(self) -> BookParts<I, D>
         ensures leaves { I.leaves result.index ≡ self.leaves }
         ensures disk { result.disk ≡ disk_in self.log }

@@ -10,14 +10,14 @@ use zorder::Memory;
 pub enum BookFault {
     /// An earlier call returned `Disk` for this record.
     Closed {
-        /// The record whose append failed, counted from 0.
+        /// The first record of the append that failed, counted from 0.
         cell: u64,
     },
-    /// The drive failed during the append of this record, or of a batch whose first record this is. From now on the book
-    /// is closed. Its last entry has the lost step. After a batch there is such an entry for each change of the batch.
+    /// The drive failed during an append: of a record, of a batch, or of records that waited for a sync. From now on the
+    /// book is closed. Its last entry has the lost step. After a batch there is such an entry for each change of the batch.
     Disk {
-        /// The record whose append failed, counted from 0. The log may have it or not. Of a batch it has all records or
-        /// none.
+        /// The first record of the append, counted from 0, which is the first one that the file may lack. The file has all
+        /// records of the append or none: those that waited, and then that of the step or those of the batch.
         cell: u64,
     },
     /// The history has as many entries as it may have, or would have more after the batch: 4,194,304 if the book keeps the

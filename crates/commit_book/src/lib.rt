@@ -15,6 +15,11 @@
 //! records of its changes together: a crash leaves all of them or none. The batch is worked out beside the table first
 //! (`BatchPlan`), so a batch that is refused or whose append fails has changed nothing there.
 //!
+//! A log is written at once: each record is in the file before its change is made. After `at_sync` records wait in memory,
+//! in the order of the history, and a change is made before its record is in the file. `sync` adds all that wait by one
+//! append. If 65,536 wait already, the next change does. A crash leaves a prefix of the history's records: at least those
+//! that were written.
+//!
 //! A book keeps the list of its entries, and takes at most 4,194,304 of them. After `without_list` it keeps none: then it
 //! takes no memory for its entries, and 2^60 of them fit. Contracts see the same history of either kind. `room` returns how
 //! much more the book takes.

@@ -12,7 +12,8 @@ use kept_log::Journal;
 use plain_list::{Entry, Lost, Op};
 
 /// A step that a change of a table waits for. Its record goes to the log, if there is one, and then its entry to the
-/// history. If the drive fails, the history gets the entry of the lost step.
+/// history. In a log that is written at sync the record waits there. If the drive fails, the history gets the entry of the
+/// lost step.
 #[derive(Drop)]
 pub(crate) struct Step<'a, D: LogDisk> {
     pub(crate) history: &'a mut History,
@@ -48,7 +49,7 @@ impl<'a, D: LogDisk> Commit for Step<'a, D> {
     }
 }
 
-/// The fault for a change that was not made, where `cell` is the log's next record.
+/// The fault for a change that was not made, where `cell` is the first record that the file may lack.
 pub(crate) fn fault_of(undone: Undone, cell: u64) -> BookFault
     ensures { result ≡ fault_of undone cell }
 {

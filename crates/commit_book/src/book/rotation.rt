@@ -80,7 +80,8 @@ impl<I: Index, D: LogDisk> Book<I, D> {
     /// Continues on another log, which must have the book's objects and leaves. The objects and the leaves are not
     /// copied, no memory is taken, and the device is not called. A split that is still open is given up, as at the
     /// opening of a log. The next split's number follows those of the other log. The new book keeps the list of its
-    /// entries if and only if this one did.
+    /// entries if and only if this one did. It writes each record at once, whether or not this one did, and records that
+    /// wait are not written to the old log.
     pub fn rotate(self, alloc: Global, opened: Opened<D>) -> Replaced<I, D>
         requires opened { IsOpenedLog D.drive I.WIDTH opened.seen opened.start.value opened.log }
         requires content { HasContent I.WIDTH self opened.seen }

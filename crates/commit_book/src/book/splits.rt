@@ -55,7 +55,7 @@ impl<I: Index, D: LogDisk> Book<I, D> {
         let bucket = match self.table.fold(&name, &mut step) {
             Ok(bucket) => bucket,
             Err(undone) => {
-                let cell = self.journal.cells();
+                let cell = self.journal.written();
                 self.keep();
                 return Err(fault_of(undone, cell));
             }
@@ -144,7 +144,7 @@ impl<I: Index, D: LogDisk> Book<I, D> {
             lost: Lost::Install { number },
         };
         if let Err(undone) = self.table.divide(&name, prepared.children(), &mut step) {
-            let cell = self.journal.cells();
+            let cell = self.journal.written();
             self.keep();
             return Err(fault_of(undone, cell));
         }
@@ -206,7 +206,7 @@ impl<I: Index, D: LogDisk> Book<I, D> {
             lost: Lost::Abandon { number },
         };
         if !step.commit() {
-            let cell = self.journal.cells();
+            let cell = self.journal.written();
             self.keep();
             return Err(BookFault::Disk { cell });
         }

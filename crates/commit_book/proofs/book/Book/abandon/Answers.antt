@@ -79,7 +79,7 @@ pub returns-in_err-check_abandon-clause-book : goal.returns-in_err-check_abandon
 returns-in_err-check_abandon-clause-book g c = same_books g.D.LogDisk.drive g.I.Index.WIDTH _ _ refl c.keep.ensures
 
 pub returns-then-not-commit-clause-refused : goal.returns-then-not-commit-clause-refused
-returns-then-not-commit-clause-refused g c = lost_freely (Unit {0}) _ c.cells-cell.result (passed _ _ c.in_ok-check_abandon.ensures)
+returns-then-not-commit-clause-refused g c = lost_freely (Unit {0}) _ c.written-cell.result (passed _ _ c.in_ok-check_abandon.ensures)
 
 pub returns-then-not-commit-clause-err : goal.returns-then-not-commit-clause-err
 returns-then-not-commit-clause-err g c =
@@ -89,8 +89,8 @@ returns-then-not-commit-clause-err g c =
     let s = state_after w b.opening b.history.entries in
     let may : MayAbandon w (book_of b) number = may_abandon w (book_of b) number c.self.invariant.few (passed _ _ (rw (← c.self.view_is) at c.in_ok-check_abandon.ensures)) in
     rw (← c.self.view_is)
-    (refused-undone g.D.LogDisk.drive w b.opening b c.self.invariant may.may.going (Unit {0}) b.table b.history.room c.cells-cell.result undone.Lost _ c.commit.new.self
-    refl refl refl tt c.cells-cell.ensures.cells (c.if-not-commit.ensures.lost refl))
+    (refused-undone g.D.LogDisk.drive w b.opening b c.self.invariant may.may.going (Unit {0}) b.table b.history.room c.written-cell.result undone.Lost _ c.commit.new.self
+    refl refl refl tt c.written-cell.ensures (c.if-not-commit.ensures.lost refl))
 
 pub returns-then-not-commit-clause-book : goal.returns-then-not-commit-clause-book
 returns-then-not-commit-clause-book g c =

@@ -145,7 +145,7 @@ returns-clause-ticket g c =
     record { short = may.short; under = folded-under name b.table.leaves _ _ book.stands.are_leaves c.in-Ok.ensures.folds }
 
 pub returns-in-Err-clause-refused : goal.returns-in-Err-clause-refused
-returns-in-Err-clause-refused g c = rw c.fault_of.ensures (refused_freely _ _ c.in-Err.undone c.cells-cell.result (passed _ _ c.in_ok-check_begin.ensures))
+returns-in-Err-clause-refused g c = rw c.fault_of.ensures (refused_freely _ _ c.in-Err.undone c.written-cell.result (passed _ _ c.in_ok-check_begin.ensures))
 
 pub returns-in-Err-clause-err : goal.returns-in-Err-clause-err
 returns-in-Err-clause-err g c =
@@ -157,8 +157,8 @@ returns-in-Err-clause-err g c =
     let may : MayBegin b.history.kept w (state_after w o h) h (cells_in b.journal) name = may_begin w (book_of b) name (passed _ _ (rw (← c.self.view_is) at c.in_ok-check_begin.ensures)) in
     let next : c.next_number-number.result ≡ (state_after w o h).begun + 1 = c.next_number-number.ensures ∙ ap (λ n. n + 1) (c.in_ok-reserve.ensures.begun ∙ c.self.invariant.begun) in
     let it =
-    refused-undone g.D.LogDisk.drive w o b c.self.invariant may.going (Arc Bucket Global) c.fold.new.self (c.len.result + 2) c.cells-cell.result c.in-Err.undone _ c.fold.new.commit
-    c.in_ok-reserve-2.ensures.ok refl c.in-Err.ensures.err tt c.cells-cell.ensures.cells c.in-Err.ensures.told in
+    refused-undone g.D.LogDisk.drive w o b c.self.invariant may.going (Arc Bucket Global) c.fold.new.self (c.len.result + 2) c.written-cell.result c.in-Err.undone _ c.fold.new.commit
+    c.in_ok-reserve-2.ensures.ok refl c.in-Err.ensures.err tt c.written-cell.ensures c.in-Err.ensures.told in
     rw (← c.self.view_is) (rw (c.fault_of.ensures, ← next) it)
 
 pub returns-clause-ok : goal.returns-clause-ok

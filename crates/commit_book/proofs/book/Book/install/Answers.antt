@@ -109,7 +109,7 @@ invariant_of-self-2 g c =
     (c.remove.ensures.splits ∙ ap (λ n. without_number n b.splits.splits) number) c.remove.ensures.begun
 
 pub returns-in-Err-clause-refused : goal.returns-in-Err-clause-refused
-returns-in-Err-clause-refused g c = rw c.fault_of.ensures (refused_freely _ _ c.in-Err.undone c.cells-cell.result (passed _ _ c.in_ok-check_install.ensures))
+returns-in-Err-clause-refused g c = rw c.fault_of.ensures (refused_freely _ _ c.in-Err.undone c.written-cell.result (passed _ _ c.in_ok-check_install.ensures))
 
 pub returns-in-Err-clause-err : goal.returns-in-Err-clause-err
 returns-in-Err-clause-err g c =
@@ -118,8 +118,8 @@ returns-in-Err-clause-err g c =
     let b = c.self.inside in
     let may : MayInstall w (book_of b) p.number p.name p.base = may_install w (book_of b) p.number p.name p.base c.self.invariant.few (passed _ _ (rw (← c.self.view_is) at c.in_ok-check_install.ensures)) in
     let it =
-    refused-undone g.D.LogDisk.drive w b.opening b c.self.invariant may.may.going (Unit {0}) c.divide.new.self b.history.room c.cells-cell.result c.in-Err.undone _ c.divide.new.commit
-    refl refl c.in-Err.ensures.err tt c.cells-cell.ensures.cells c.in-Err.ensures.told in
+    refused-undone g.D.LogDisk.drive w b.opening b c.self.invariant may.may.going (Unit {0}) c.divide.new.self b.history.room c.written-cell.result c.in-Err.undone _ c.divide.new.commit
+    refl refl c.in-Err.ensures.err tt c.written-cell.ensures c.in-Err.ensures.told in
     rw (← c.self.view_is) (rw (c.fault_of.ensures, ← c.number-number.ensures) it)
 
 pub returns-clause-book : goal.returns-clause-book

@@ -159,11 +159,11 @@ returns-in-Err-clause-err g c =
     let change : is_change (answer_of (world_after b.opening.world b.history.entries) op) ≡ true = ap (λ (ms : World). is_change (answer_of ms op)) (sym world) ∙ told.0 in
     let it =
     refused-undone g.D.LogDisk.drive w b.opening b c.self.invariant (may_update (book_of b) op c.self.invariant.few (passed _ _ (rw (← c.self.view_is) at c.in_ok-check_update.ensures))).call.going Answer
-    c.update.new.self (c.len.result + 1) c.cells-cell.result c.in-Err.undone _ c.update.new.commit c.in_ok-reserve.ensures.ok refl c.in-Err.ensures.err change c.cells-cell.ensures.cells told.1 in
+    c.update.new.self (c.len.result + 1) c.written-cell.result c.in-Err.undone _ c.update.new.commit c.in_ok-reserve.ensures.ok refl c.in-Err.ensures.err change c.written-cell.ensures told.1 in
     rw (← c.self.view_is) (rw c.fault_of.ensures it)
 
 pub returns-in-Err-clause-refused : goal.returns-in-Err-clause-refused
-returns-in-Err-clause-refused g c = rw c.fault_of.ensures (refused_freely _ _ c.in-Err.undone c.cells-cell.result (passed _ _ c.in_ok-check_update.ensures))
+returns-in-Err-clause-refused g c = rw c.fault_of.ensures (refused_freely _ _ c.in-Err.undone c.written-cell.result (passed _ _ c.in_ok-check_update.ensures))
 
 pub returns-in_err-check_update-clause-refused : goal.returns-in_err-check_update-clause-refused
 returns-in_err-check_update-clause-refused g c = hands_on (Unit {0}) IsMemoryOrDisk _ c.in_err-check_update.field-0.0 _ c.in_err-check_update.ensures c.from_residual.ensures.1

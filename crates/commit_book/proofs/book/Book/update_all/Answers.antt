@@ -9,7 +9,7 @@ use Rattle.plain_list.specs.declared.entries.Entry.{Entry}
 use Rattle.plain_list.proofs.Batches.{batch_calls-length}
 use Rattle.kept_log.specs.KeptView.{KeptView}
 use Rattle.kept_log.specs.Journal.{KeepsIn, LeavesAllOrNone}
-use Rattle.kept_log.specs.declared.journal.AppendAllLost.TheVariants.{Disk, Memory}
+use Rattle.kept_log.specs.declared.faults.AppendAllLost.TheVariants.{Disk, Memory}
 use Rattle.point_table.specs.Changes.{bases_of, AreSettled}
 use Rattle.point_table.specs.TableView.{TableView}
 use Rattle.commit_book.specs.BatchSteps.{Plans, Adds, flagged_fails}
@@ -18,24 +18,24 @@ use Rattle.commit_book.specs.Events.{Events}
 use Rattle.commit_book.proofs.BatchCalls.{may_batch, planned, planned_any, planned_answers, planned_changes, planned_length, can_add, made, missed, adds-memory}
 use Rattle.commit_book.proofs.BatchLemmas.{flagged_fails-lost}
 use Rattle.commit_book.proofs.BatchStates.{inside-calls, inside-fails}
-use Rattle.commit_book.proofs.QuietBatches.{leaves-none}
+use Rattle.kept_log.proofs.InJournal.{leaves-still}
 use Rattle.commit_book.proofs.RefusalLemmas.{passed}
 use Rattle.commit_book.proofs.book.Book.update_all.Goals as goal
 
 pub returns-in_err-check_batch-clause-any_moment : goal.returns-in_err-check_batch-clause-any_moment
 returns-in_err-check_batch-clause-any_moment g c =
     rw (← c.self.view_is)
-    (leaves-none g.D.LogDisk.drive g.I.Index.WIDTH c.self.inside.opening c.self.inside.history.entries _ c.self.inside.journal g.met.D.LogDisk.keeps_laws c.self.invariant.on_log)
+    (leaves-still g.D.LogDisk.drive g.I.Index.WIDTH c.self.inside.opening c.self.inside.history.entries _ c.self.inside.journal g.met.D.LogDisk.keeps_laws c.self.invariant.on_log)
 
 pub returns-in_err-draft-clause-any_moment : goal.returns-in_err-draft-clause-any_moment
 returns-in_err-draft-clause-any_moment g c =
     rw (← c.self.view_is)
-    (leaves-none g.D.LogDisk.drive g.I.Index.WIDTH c.self.inside.opening c.self.inside.history.entries _ c.self.inside.journal g.met.D.LogDisk.keeps_laws c.self.invariant.on_log)
+    (leaves-still g.D.LogDisk.drive g.I.Index.WIDTH c.self.inside.opening c.self.inside.history.entries _ c.self.inside.journal g.met.D.LogDisk.keeps_laws c.self.invariant.on_log)
 
 pub returns-in_err-reserve-clause-any_moment : goal.returns-in_err-reserve-clause-any_moment
 returns-in_err-reserve-clause-any_moment g c =
     rw (← c.self.view_is)
-    (leaves-none g.D.LogDisk.drive g.I.Index.WIDTH c.self.inside.opening c.self.inside.history.entries _ c.self.inside.journal g.met.D.LogDisk.keeps_laws c.self.invariant.on_log)
+    (leaves-still g.D.LogDisk.drive g.I.Index.WIDTH c.self.inside.opening c.self.inside.history.entries _ c.self.inside.journal g.met.D.LogDisk.keeps_laws c.self.invariant.on_log)
 
 pub publish-requires-clause-can : goal.publish-requires-clause-can
 publish-requires-clause-can g c = λ some.
@@ -209,4 +209,4 @@ returns-clause-any_moment g c =
     let same : c.publish.new.journal ≡ b.journal = adds-memory _ drive c.deref.result.now change b.journal c.publish.new.journal adds in
     rw (← c.self.view_is) (λ none.
     subst (λ (l : Option (KeptView _)). LeavesAllOrNone drive w o b.history.entries (batch_calls c.args.session c.args.row c.args.ops.now) b.journal l) (sym same)
-    (leaves-none drive w o b.history.entries (batch_calls c.args.session c.args.row c.args.ops.now) b.journal g.met.D.LogDisk.keeps_laws c.self.invariant.on_log none))
+    (leaves-still drive w o b.history.entries (batch_calls c.args.session c.args.row c.args.ops.now) b.journal g.met.D.LogDisk.keeps_laws c.self.invariant.on_log none))

@@ -21,6 +21,6 @@ returns-in-Err-clause-lost g c = λ _.
         any_moment = λ w s is kept. c.append.ensures.any_moment w s before.entries (entry_of step) (record { legal = is.legal; cells = is.cells ∙ c.in-Some.ensures }) kept;
         since = c.append.ensures.since;
       };
-      count = missed.count;
+      written = missed.written;
       rose = missed.rose;
     }
