@@ -25,4 +25,5 @@ mod lost_moves;
 mod snapshots;
 mod splits;
 mod steps;
+mod synced;
 mod unlisted;

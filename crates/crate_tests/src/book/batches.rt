@@ -18,8 +18,8 @@ use std::alloc::Global;
 use std::process::Abort;
 use zorder::{Name, Point, child};
 
-// Later operations meet what earlier ones of the same batch did.
-const BATCH: [Op; 8] = [
+/// Later operations meet what earlier ones of the same batch did.
+pub const BATCH: [Op; 8] = [
     Op::Put {
         id: 7,
         at: Point { x: 3, y: 5 },
@@ -54,8 +54,8 @@ const BATCH: [Op; 8] = [
     },
 ];
 
-// The answers in a world without objects.
-const ANSWERS: [Said; 8] = [
+/// The answers in a world without objects.
+pub const ANSWERS: [Said; 8] = [
     ("done", None),
     ("done", None),
     ("stale", Some([3, 5, 10])),
@@ -66,8 +66,8 @@ const ANSWERS: [Said; 8] = [
     ("absent", None),
 ];
 
-// The records of the five changes.
-const CELLS: [Cell; 5] = [
+/// The records of the five changes.
+pub const CELLS: [Cell; 5] = [
     Cell::Put {
         id: 7,
         at: Point { x: 3, y: 5 },
@@ -91,8 +91,8 @@ const CELLS: [Cell; 5] = [
     },
 ];
 
-// Makes a batch whose first operation has this row. Its contract says nothing of the result.
-fn make<I: Index, D: LogDisk>(
+/// Makes a batch whose first operation has this row. Its contract says nothing of the result.
+pub fn make<I: Index, D: LogDisk>(
     alloc: Global,
     book: &mut Book<I, D>,
     row: u32,
@@ -108,10 +108,11 @@ fn is_told(done: &BatchDone, wanted: &[Said]) -> bool {
     done.answers.iter().map(said_of).eq(wanted.iter().copied())
 }
 
-// The place of the last call of a batch, whether the answers are these, and the leaf to split next.
-type Made = (u64, bool, Option<Name>);
+/// The place of the last call of a batch, whether the answers are these, and the leaf to split next.
+pub type Made = (u64, bool, Option<Name>);
 
-fn made(done: Result<BatchDone, BookFault>, wanted: &[Said]) -> Result<Made, BookFault> {
+/// What a batch returned, with whether its answers are these.
+pub fn made(done: Result<BatchDone, BookFault>, wanted: &[Said]) -> Result<Made, BookFault> {
     let done = done?;
     Ok((done.place, is_told(&done, wanted), done.full))
 }
@@ -149,10 +150,10 @@ const AGAIN: [Said; 8] = [
     ("absent", None),
 ];
 
-const MADE: Result<Made, BookFault> = Ok((8, true, None));
+pub const MADE: Result<Made, BookFault> = Ok((8, true, None));
 
-// How many moments a drive has, the opening's sync among them, and whether it has these bytes.
-fn stands_on(disk: &Option<MemDisk>, bytes: &[u8]) -> Option<(u64, bool)> {
+/// How many moments a drive has, the opening's sync among them, and whether it has these bytes.
+pub fn stands_on(disk: &Option<MemDisk>, bytes: &[u8]) -> Option<(u64, bool)> {
     let disk = disk.as_ref()?;
     Some((disk.moments(), disk.bytes() == bytes))
 }

@@ -12,8 +12,8 @@ use std::alloc::Global;
 use std::process::Abort;
 use zorder::Point;
 
-// Put 7 at (3,5), begin 1 of the empty name, install 1, begin 2 of `0`, abandon 2.
-const SPLIT_LOG: &[u8] = b"MDLOCLOG\x02\x01\0\0\0\0\0\0\
+/// Put 7 at (3,5), begin 1 of the empty name, install 1, begin 2 of `0`, abandon 2.
+pub const SPLIT_LOG: &[u8] = b"MDLOCLOG\x02\x01\0\0\0\0\0\0\
     \x01\x01\0\0\0\0\0\0\0\x07\0\0\0\x03\0\0\0\x05\0\0\0\0\0\0\0\0\0\0\0\0\0\0\
     \x01\x04\0\0\0\0\0\0\0\x01\0\0\0\0\0\0\0\0\0\0\0\0\0\0\0\0\0\0\0\0\0\0\
     \x01\x05\0\0\0\0\0\0\0\x01\0\0\0\0\0\0\0\0\0\0\0\0\0\0\0\0\0\0\0\0\0\0\
