@@ -28,4 +28,6 @@ pub struct LogStart {
     pub clock: u64,
     /// How many faults its drive had counted.
     pub faults: u64,
+    /// Whether its cells wait for a sync.
+    pub at_sync: bool,
 }

@@ -12,13 +12,14 @@ use Rattle.play_run.proofs.OpeningFacts.{named-newest}
 
 -- a book over what was found
 pub opens-book : {D : Type 0} (drive : D → Drive) (file : List ℕ) (old : Drive) (w size : ℕ) (b : BookView D) (log : KeptView D) (seen : Seen) (start : D) (now : Drive) → OpensFile file old (drive start) now w seen
-    → log.first ≡ log.cells → log.start ≡ start → log.cells ≡ seen.cells → b.opening ≡ found_state seen → b.bucket ≡ size → b.log ≡ Some log → OpensBook drive file old w size b
-opens-book {D = D} drive file old w size b log seen start now opens first here count opening bucket log_is =
+    → log.at_sync ≡ false → log.first ≡ log.cells → log.start ≡ start → log.cells ≡ seen.cells → b.opening ≡ found_state seen → b.bucket ≡ size → b.log ≡ Some log → OpensBook drive file old w size b
+opens-book {D = D} drive file old w size b log seen start now opens once first here count opening bucket log_is =
     let found = opens.found in
     record {
       bucket = bucket;
       log = log;
       log_is = log_is;
+      once = once;
       from = origin_of w found.cells;
       found = record {
         width = w;

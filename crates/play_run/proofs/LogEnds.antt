@@ -10,6 +10,7 @@ use Rattle.plain_list.specs.State.{State, empty_state}
 use Rattle.recovery.proofs.OnlyReading.{rose-earlier, stays-trans}
 use Rattle.kept_log.specs.KeptView.{KeptView}
 use Rattle.kept_log.specs.Journal.{disk_in, KeepsLog, KeepsIn}
+use Rattle.kept_log.proofs.Waiting.{keeps-at-once}
 use Rattle.commit_book.specs.BookView.{BookView}
 use Rattle.kept_log.specs.Counts.{first_in, count_after}
 use Rattle.csv_rows.specs.declared.rows.InRow.{InRow}
@@ -43,20 +44,20 @@ pub record KeptSince {D : Type 0} (drive : D → Drive) (w : ℕ) (s : State) (h
   pub keeps : KeepsLog drive w s h now
   pub disk_is : now.disk ≡ disk
 
-since-in : {D : Type 0} (drive : D → Drive) (w : ℕ) (s : State) (h : List Entry) (opened : KeptView D) (disk : D) (old new : Option (KeptView D)) → old ≡ Some opened → BeginsAs drive old new → first_in new ≡ first_in old → KeepsIn drive w s h new
+since-in : {D : Type 0} (drive : D → Drive) (w : ℕ) (s : State) (h : List Entry) (opened : KeptView D) (disk : D) (old new : Option (KeptView D)) → old ≡ Some opened → opened.at_sync ≡ false → BeginsAs drive old new → first_in new ≡ first_in old → KeepsIn drive w s h new
     → Some disk ≡ disk_in new → KeptSince drive w s h opened disk
-since-in drive w s h opened disk None new is begins first keeps told = absurd (cc is)
-since-in drive w s h opened disk (Some old) None is begins first keeps told = absurd begins
-since-in {D} drive w s h opened disk (Some old) (Some new) is begins first keeps told = record {
+since-in drive w s h opened disk None new is once begins first keeps told = absurd (cc is)
+since-in drive w s h opened disk (Some old) None is once begins first keeps told = absurd begins
+since-in {D} drive w s h opened disk (Some old) (Some new) is once begins first keeps told = record {
   now = new;
-  like = subst (λ (v : KeptView D). IsLike (drive v.start) (drive new.start)) (same_Some old opened is) begins;
+  like = subst (λ (v : KeptView D). IsLike (drive v.start) (drive new.start)) (same_Some old opened is) begins.0;
   first = same_Some new.first old.first first ∙ ap (λ (v : KeptView D). v.first) (same_Some old opened is);
-  keeps = keeps;
+  keeps = keeps-at-once drive w s h new keeps (begins.1 ∙ ap (λ (v : KeptView D). v.at_sync) (same_Some old opened is) ∙ once);
   disk_is = sym (same_Some disk new.disk told);
 }
 
-pub kept-since : {D : Type 0} (drive : D → Drive) (w : ℕ) (s : State) (h : List Entry) (opened : KeptView D) (disk : D) (log : Option (KeptView D)) → log ≡ Some opened → LeavesLog drive w s h log (Some disk) → KeptSince drive w s h opened disk
-kept-since drive w s h opened disk log is leaves = since-in drive w s h opened disk log leaves.log is leaves.begins leaves.first leaves.keeps leaves.disk_is
+pub kept-since : {D : Type 0} (drive : D → Drive) (w : ℕ) (s : State) (h : List Entry) (opened : KeptView D) (disk : D) (log : Option (KeptView D)) → log ≡ Some opened → opened.at_sync ≡ false → LeavesLog drive w s h log (Some disk) → KeptSince drive w s h opened disk
+kept-since drive w s h opened disk log is once leaves = since-in drive w s h opened disk log leaves.log is once leaves.begins leaves.first leaves.keeps leaves.disk_is
 
 -- what a history that ends with a failed append names
 loses-cell : (Step : List Entry → Lost → Type 0) (h : List Entry) (cell : ℕ) → LosesStep Step h cell → failed_cell h ≡ Some cell
@@ -67,7 +68,7 @@ pub log-stop : {D : Type 0} (drive : D → Drive) (file : List ℕ) (rows : List
     → (why : Refusal) → StopsBook (IsNextStep w b.opening rows) h why → IsStop (Some file) opens.from rows old (drive disk) h why
 log-stop drive file rows old w size b h disk opens leaves why (inl (memory, none)) = subst (IsStop (Some file) opens.from rows old (drive disk) h) (sym memory) none
 log-stop {D = D} drive file rows old w size b h disk opens leaves why (inr (cell, is, loses)) =
-    let kept = kept-since drive w b.opening h opens.log disk b.log opens.log_is leaves in
+    let kept = kept-since drive w b.opening h opens.log disk b.log opens.log_is opens.once leaves in
     let rose = kept.keeps.rose (ap is_some (loses-cell (IsNextStep w b.opening rows) h cell loses)) in
     let calm : (drive kept.now.start).faults ≡ old.faults = kept.like.calm ∙ opens.calm in
     let before : old.faults ≤ (drive kept.now.start).faults = omega (arith, calm) in
@@ -115,7 +116,7 @@ unfailed Step h status before after (inr (inr (why, inr (cell, named, failed), r
 pub keeps-book : {D : Type 0} (drive : D → Drive) (file : List ℕ) (Step : List Entry → Lost → Type 0) (old : Drive) (w size : ℕ) (b : BookView D) (h : List Entry) (disk : D) (status : ℕ) (before after : Output) (opens : OpensBook drive file old w size b)
     → LeavesLog drive w b.opening h b.log (Some disk) → EndsRows (StopsBook Step h) status before after → (WritesLines status → failed_cell h ≡ None) → KeepsPlayed opens.from old (drive disk) status h
 keeps-book {D = D} drive file Step old w size b h disk status before after opens leaves ends going =
-    let kept = kept-since drive w b.opening h opens.log disk b.log opens.log_is leaves in
+    let kept = kept-since drive w b.opening h opens.log disk b.log opens.log_is opens.once leaves in
     subst (λ (d : D). KeepsPlayed opens.from old (drive d) status h) kept.disk_is
     (keeps-opened drive old kept.now opens.from b.opening h status (stays-trans old (drive opens.log.start) (drive kept.now.start) opens.stays kept.like.stays) (subst (λ (v : ℕ). KeepsLog drive v b.opening h kept.now) (sym opens.width) kept.keeps) (unfailed Step h status before after ends going) opens.found opens.state)
 
@@ -123,7 +124,7 @@ keeps-book {D = D} drive file Step old w size b h disk status before after opens
 text-book : {D : Type 0} (drive : D → Drive) (file : List ℕ) (Step : List Entry → Lost → Type 0) (old : Drive) (w size : ℕ) (b : BookView D) (h : List Entry) (disk : D) (status : ℕ) (before after : Output) (opens : OpensBook drive file old w size b)
     → LeavesLog drive w b.opening h b.log (Some disk) → EndsRows (StopsBook Step h) status before after → (WritesLines status → failed_cell h ≡ None) → KeepsText opens.from old (drive disk) status h × StopsAtFault old (drive disk)
 text-book {D = D} drive file Step old w size b h disk status before after opens leaves ends going =
-    let kept = kept-since drive w b.opening h opens.log disk b.log opens.log_is leaves in
+    let kept = kept-since drive w b.opening h opens.log disk b.log opens.log_is opens.once leaves in
     let stays = stays-trans old (drive opens.log.start) (drive kept.now.start) opens.stays kept.like.stays in
     let keeps = subst (λ (v : ℕ). KeepsLog drive v b.opening h kept.now) (sym opens.width) kept.keeps in
     let calm = unfailed Step h status before after ends going in
@@ -136,14 +137,14 @@ text-book {D = D} drive file Step old w size b h disk status before after opens 
 calm-book : {D : Type 0} (drive : D → Drive) (file : List ℕ) (old : Drive) (w size : ℕ) (b : BookView D) (h : List Entry) (disk : D) → OpensBook drive file old w size b → LeavesLog drive w b.opening h b.log (Some disk)
     → failed_cell h ≡ None → (drive disk).faults ≡ old.faults
 calm-book {D = D} drive file old w size b h disk opens leaves none =
-    let kept = kept-since drive w b.opening h opens.log disk b.log opens.log_is leaves in
+    let kept = kept-since drive w b.opening h opens.log disk b.log opens.log_is opens.once leaves in
     subst (λ (d : D). (drive d).faults ≡ old.faults) kept.disk_is (kept.keeps.calm none ∙ kept.like.calm ∙ opens.calm)
 
 -- its bytes are still known where they were
 told-book : {D : Type 0} (drive : D → Drive) (file : List ℕ) (old : Drive) (w size : ℕ) (b : BookView D) (h : List Entry) (disk : D) → OpensBook drive file old w size b → LeavesLog drive w b.opening h b.log (Some disk)
     → is_some (drive disk).bytes ≡ is_some old.bytes
 told-book {D = D} drive file old w size b h disk opens leaves =
-    let kept = kept-since drive w b.opening h opens.log disk b.log opens.log_is leaves in
+    let kept = kept-since drive w b.opening h opens.log disk b.log opens.log_is opens.once leaves in
     subst (λ (d : D). is_some (drive d).bytes ≡ is_some old.bytes) kept.disk_is
     (kept.keeps.told ∙ ap is_some (kept.like.stays.bytes ∙ opens.stays.bytes))
 
@@ -151,7 +152,7 @@ told-book {D = D} drive file old w size b h disk opens leaves =
 attached-book : {D : Type 0} (drive : D → Drive) (file : List ℕ) (old : Drive) (w size : ℕ) (b : BookView D) (h : List Entry) (disk : D) → OpensBook drive file old w size b → LeavesLog drive w b.opening h b.log (Some disk)
     → AttachedOne file false old (drive disk)
 attached-book {D = D} drive file old w size b h disk opens leaves =
-    let kept = kept-since drive w b.opening h opens.log disk b.log opens.log_is leaves in
+    let kept = kept-since drive w b.opening h opens.log disk b.log opens.log_is opens.once leaves in
     subst (λ (d : D). AttachedOne file false old (drive d)) kept.disk_is
     (attached-still file false old (drive opens.log.start) (drive kept.now.disk) opens.attached (λ all told. kept.like.file all (kept.keeps.file all told)))
 

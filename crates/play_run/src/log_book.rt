@@ -1,5 +1,5 @@
 //! Opens the log in a file, and creates a book on it.
-ghost use Rattle.std.specs.Prelude.{◌≡◌, Some, None, IfOk, IfErr};
+ghost use Rattle.std.specs.Prelude.{◌≡◌, [], false, Some, None, IfOk, IfErr};
 ghost use Rattle.kept_log.specs.Kept.{IsOpened, found_state};
 ghost use Rattle.recovery.specs.Found.{IsFound};
 ghost use Rattle.run_ends.specs.Limits.{oldest_played, most_played};
@@ -57,6 +57,8 @@ pub(crate) fn book_of<I: Index, D: LogDisk>(
       failed = None;
       start = opened.start.value;
       first = opened.log.cells;
+      waiting = [];
+      at_sync = false;
     })) }
     ensures new { IfOk result (λ b. IsNewBook b) }
     ensures back { IfErr result (λ e. (e.disk ≡ opened.log.disk) × (e.why ≡ Refusal.Memory)) }

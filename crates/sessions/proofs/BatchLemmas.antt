@@ -25,13 +25,13 @@ use Rattle.book_lock.specs.Pass.{Known}
 use Rattle.book_lock.specs.declared.origin.Origin.{Origin}
 use Rattle.sessions.specs.Batches.{Applied, BatchLeaves, EndsNone, HasLost, IsApplied, MayFail, MayNoteAll, batch_cause, has_added_all, has_given_all}
 use Rattle.sessions.specs.Calls.{IsCallFault, call_fault}
-use Rattle.sessions.specs.Shared.{origin_of}
+use Rattle.sessions.specs.Shared.{origin_of, waits_in}
 use Rattle.sessions.specs.Splits.{SamePass}
 use Rattle.sessions.specs.Steps.{WasTaken, cells_at, has_seen}
 use Rattle.sessions.specs.declared.faults.CallFault.{CallFault}
 use Rattle.sessions.specs.declared.faults.CallFault.TheVariants as call
 use Rattle.sessions.proofs.CallLemmas.{AreCauses, causes-first, causes-if, causes-map, free-call, full-seen, refused-cause}
-use Rattle.sessions.proofs.StepLemmas.{cells-at, prefix-later, same-seen}
+use Rattle.sessions.proofs.StepLemmas.{cells-at, written-all, prefix-later, same-seen}
 
 -- One more number in a row of numbers.
 pub range_with_len-suc : (a n : ℕ) → range_with_len a (suc n) ≡ range_with_len a n ++ (a + n) ∷ []
@@ -179,7 +179,7 @@ module _ {D : Type 0} (drive : D → Drive) (w : ℕ) (b mid : BookView D) (old 
     added =
         added-all (batch_fails cell (world_after b.opening.world b.entries) session row ops) err.entries given
         ∙ ap (λ (list : World). has_added_all old took.seen (batch_fails cell list session row ops)) world-is;
-    cell_is = err.cell_is ∙ cells-is;
+    cell_is = λ once. err.cell_is ∙ written-all drive w b books.before (ap waits_in was.origin ∙ once) ∙ cells-is;
     change = subst (λ (list : World). list_any is_change (answers_to list ops) ≡ true) world-is err.change;
   }
 

@@ -14,3 +14,4 @@ pub mod Views
 pub mod Contents
 pub mod RunLemmas
 pub mod SettleLemmas
+pub mod SyncLemmas

@@ -7,6 +7,7 @@ use Rattle.disk_trait.specs.Drive.{Drive}
 use Rattle.log_state.specs.Changes.{cells_of}
 use Rattle.kept_log.specs.KeptView.{KeptView}
 use Rattle.kept_log.specs.Journal.{KeepsIn}
+use Rattle.kept_log.proofs.Waiting.{in-count}
 use Rattle.commit_book.specs.BookView.{BookView}
 use Rattle.commit_book.specs.IsBook.{IsBook}
 use Rattle.commit_book.specs.RoomLeft.{cells_where, room_beside, room_of}
@@ -18,7 +19,7 @@ use Rattle.sessions.specs.Rooms.{cells_where_at, room_at}
 log-cells : {D : Type 0} (drive : D → Drive) (w : ℕ) (s : State) (h : List Entry) (log : Option (KeptView D)) → KeepsIn drive w s h log
     → cells_where log ≡ option_map (λ (n : ℕ). n + length (cells_of s.world h)) (option_map (λ (start : LogStart). start.cells) (option_map (start_in drive) log))
 log-cells drive w s h None keeps = refl
-log-cells drive w s h (Some log) keeps = ap Some keeps.keeps.count
+log-cells drive w s h (Some log) keeps = ap Some (in-count drive w s h (Some log) keeps)
 
 module _ {D : Type 0} (drive : D → Drive) (w : ℕ) (b : BookView D) (is : IsBook drive w b) (origin : Origin) (seen : List Entry) (from : origin_of drive b ≡ origin) (entries : b.entries ≡ seen) where
   cells-are : cells_where b.log ≡ cells_where_at origin seen

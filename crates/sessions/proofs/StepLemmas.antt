@@ -1,5 +1,5 @@
 -- One step under the lock: what it leaves of a pass.
-use Rattle.std.proofs.Common.{◌≡◌, inl, inr, ℕ, Bool, true, false, List, [], ◌∷◌, ◌++◌, length, Option, Some, None, Result, Ok, Err, refl, sym, ap, subst, ◌∙◌, append_assoc}
+use Rattle.std.proofs.Common.{◌≡◌, inl, inr, ℕ, Bool, true, false, List, [], ◌∷◌, ◌++◌, length, Option, Some, None, Result, Ok, Err, refl, sym, ap, subst, ◌∙◌, append_assoc, arith}
 use mathlib.Core.List.{IsPrefix}
 use Rattle.std.specs.Prelude.{IfErr}
 use Rattle.plain_list.specs.declared.ops.Op.{Op}
@@ -8,10 +8,11 @@ use Rattle.plain_list.specs.declared.entries.Entry.TheVariants.{Call, Begin, Fai
 use Rattle.plain_list.specs.declared.entries.Lost.{Lost}
 use Rattle.plain_list.specs.State.{State}
 use Rattle.disk_trait.specs.Drive.{Drive}
-use Rattle.std.specs.Option.{option_map}
+use Rattle.std.specs.Option.{option_map, option_map_or}
 use Rattle.kept_log.specs.KeptView.{KeptView}
-use Rattle.kept_log.specs.Journal.{KeepsIn, cells_in}
+use Rattle.kept_log.specs.Journal.{KeepsIn, cells_in, written_in}
 use Rattle.kept_log.specs.Counts.{count_after}
+use Rattle.kept_log.proofs.Waiting.{in-count}
 use Rattle.commit_book.specs.BookView.{BookView}
 use Rattle.commit_book.specs.IsBook.{IsBook}
 use Rattle.commit_book.specs.Refusals.{IsRefusedBy, LeavesRefused, first_of}
@@ -20,7 +21,7 @@ use Rattle.commit_book.specs.declared.faults.BookFault.TheVariants.{Closed, Disk
 use Rattle.book_lock.specs.Pass.{Known}
 use Rattle.book_lock.specs.Ends.{MayNote}
 use Rattle.book_lock.specs.declared.origin.LogStart.{LogStart}
-use Rattle.sessions.specs.Shared.{origin_of, start_in}
+use Rattle.sessions.specs.Shared.{origin_of, start_in, waits_in}
 use Rattle.sessions.specs.Steps.{cells_at, WasTaken, IsStep, Leaves, Says, MayGive, has_entry, has_given, has_added, has_seen}
 use Rattle.sessions.specs.Splits.{SamePass}
 
@@ -30,11 +31,19 @@ prefix-later xs ys zs (a, p) (b, q) = (a ++ b, sym (append_assoc xs a b) ∙ ap 
 log-cells : {D : Type 0} (drive : D → Drive) (w : ℕ) (s : State) (h : List Entry) (log : Option (KeptView D)) → KeepsIn drive w s h log
     → cells_in log ≡ count_after (option_map (λ (start : LogStart). start.cells) (option_map (start_in drive) log)) s.world h
 log-cells drive w s h None keeps = refl
-log-cells drive w s h (Some log) keeps = keeps.keeps.count
+log-cells drive w s h (Some log) keeps = in-count drive w s h (Some log) keeps
 
 -- the number of cells of a book's log
 pub cells-at : {D : Type 0} (drive : D → Drive) (w : ℕ) (b : BookView D) → IsBook drive w b → cells_in b.log ≡ cells_at (origin_of drive b) b.entries
 cells-at drive w b is = log-cells drive w b.opening b.entries b.log is.on_log
+
+-- where no record waits for a sync, all are in the file
+pub written-all : {D : Type 0} (drive : D → Drive) (w : ℕ) (b : BookView D) → IsBook drive w b → waits_in (origin_of drive b) ≡ false → written_in b.log ≡ cells_in b.log
+written-all {D = D} drive w b is once = by_log b.log is.on_log once
+  where
+    by_log : (log : Option (KeptView D)) → KeepsIn drive w b.opening b.entries log → option_map_or (λ (start : LogStart). start.at_sync) (option_map (start_in drive) log) false ≡ false → written_in log ≡ cells_in log
+    by_log None keeps once = refl
+    by_log (Some log) keeps once = omega (arith, ap length (keeps.at_once once).0)
 
 -- where no later cause comes, the first one does
 pub first-none : (cause : Option BookFault) → first_of cause None ≡ cause
@@ -50,7 +59,7 @@ pub begin-may : (number : ℕ) (name : List Bool) (seen : List Entry) (own : Lis
 begin-may number name seen own n (inl is) = absurd (cc is)
 begin-may number name seen own n (inr is) = absurd (cc is)
 
-fail-may : (cell : ℕ) (lost : Lost) (seen : List Entry) (own : List ℕ) → MayNote seen own (Fail cell lost)
+pub fail-may : (cell : ℕ) (lost : Lost) (seen : List Entry) (own : List ℕ) → MayNote seen own (Fail cell lost)
 fail-may cell lost seen own n (inl is) = absurd (cc is)
 fail-may cell lost seen own n (inr is) = absurd (cc is)
 
@@ -84,7 +93,7 @@ module _ {D A : Type 0} (drive : D → Drive) (IsFree : BookFault → Type 0) (c
   may-give (Err (Stale number)) step notes = ap (λ (x : BookView D). x.entries) step.left ∙ same
   may-give (Err (NotOpen number)) step notes = ap (λ (x : BookView D). x.entries) step.left ∙ same
 
-adds : (old took back : Known) (entries : List Entry) (e : Entry) → old.holds ≡ false → took ≡ record old { seen = took.seen; holds = true } → entries ≡ took.seen ++ e ∷ [] → back ≡ has_given took true entries → back ≡ has_added old took.seen e
+pub adds : (old took back : Known) (entries : List Entry) (e : Entry) → old.holds ≡ false → took ≡ record old { seen = took.seen; holds = true } → entries ≡ took.seen ++ e ∷ [] → back ≡ has_given took true entries → back ≡ has_added old took.seen e
 adds old took back entries e off took_is entries_is back_is = back_is ∙ (λ i. record (took_is i) { seen = entries_is i; own = (took_is i).own ++ length took.seen ∷ []; holds = sym off i })
 
 -- who has given a book back doesn't hold the lock

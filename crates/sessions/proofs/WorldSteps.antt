@@ -23,6 +23,7 @@ use Rattle.std.specs.Prelude.{IfOk, IfErr, OnOk}
 use Rattle.index_layer.specs.Leaves.{Leaf}
 use Rattle.split_prepare.specs.declared.ticket.SplitTicket.{SplitTicket}
 use Rattle.commit_book.specs.SplitSteps.{Begins, Installs, Abandons}
+use Rattle.commit_book.specs.Syncs.{Syncs, lost_sync}
 use Rattle.plain_list.specs.declared.entries.Lost.TheVariants as lost
 use Rattle.index_layer.specs.Stands.{Stands}
 use Rattle.commit_book.specs.Answers.{Notes, Replies, IsQuery}
@@ -140,6 +141,11 @@ pub abandon_world : {D A : Type 0} (n : ℕ) (drive : D → Drive) (old new : Bo
 abandon_world n drive old new (Ok t) ok err opening has = world_more old new (Abandon n) tt opening ok.entries has
 abandon_world n drive old new (Err fault) ok err opening has = world_refused drive (lost.Abandon n) old new fault opening has err
 
+-- and a sync
+pub sync_world : {D : Type 0} (drive : D → Drive) (old new : BookView D) (r : Result ℕ BookFault) → IfOk r (Syncs old new) → IfErr r (LeavesRefused drive lost_sync old new) → new.opening ≡ old.opening → HasWorld old → HasWorld new
+sync_world drive old new (Ok place) ok err opening has = record { world = subst IsWorld (λ i. world_after (sym opening i).world (sym ok.entries i)) has.world }
+sync_world drive old new (Err fault) ok err opening has = world_refused drive lost_sync old new fault opening has err
+
 -- a query leaves the world
 pub snapshot_stands : {I D P : Type 0} (leaves : I → List Leaf) (names : List (List Bool)) (old new : BookView D) (session row : ℕ) (op : Op) (r : Result (Snapshot I P) BookFault) → IsQuery op → new.opening ≡ old.opening
     → IfOk r (λ s. Notes old new session row op s.place) → IfOk r (λ s. Stands (leaves s.index) (places_of (world_after new.opening.world new.entries)) names) → IfOk r (λ s. Stands (leaves s.index) (places_of (world_after old.opening.world old.entries)) names)
@@ -150,17 +156,17 @@ snapshot_stands leaves names old new session row op (Ok s) query opening ok inde
 snapshot_stands leaves names old new session row op (Err fault) query opening ok index = tt
 
 -- no call changes over which drive the log was opened
-starts_still : {D : Type 0} (drive : D → Drive) (unlogged : Type 0) (Is : Drive → Type 0) (old new : Option (KeptView D)) → IsSinceIn old new → StartsAs drive unlogged Is old → StartsAs drive unlogged Is new
+starts_still : {D : Type 0} (drive : D → Drive) (unlogged : Type 0) (Is : Drive → Bool → Type 0) (old new : Option (KeptView D)) → IsSinceIn old new → StartsAs drive unlogged Is old → StartsAs drive unlogged Is new
 starts_still drive unlogged Is None None since starts = starts
-starts_still drive unlogged Is (Some old) (Some new) since starts = subst (λ (d : _). Is (drive d)) (sym since.start) starts
+starts_still drive unlogged Is (Some old) (Some new) since starts = subst (λ (waits : Bool). Is (drive new.start) waits) (sym since.at_sync) (subst (λ (d : _). Is (drive d) old.at_sync) (sym since.start) starts)
 starts_still drive unlogged Is None (Some new) since starts = absurd since
 starts_still drive unlogged Is (Some old) None since starts = absurd since
 
 -- so it is as every book behind a lock
-pub shared_still : {D : Type 0} (drive : D → Drive) (unlogged : Type 0) (Is : Drive → Type 0) (old new : BookView D) → SameOrigin old new → StartsAs drive unlogged Is old.log → HasWorld new → IsShared drive unlogged Is new
+pub shared_still : {D : Type 0} (drive : D → Drive) (unlogged : Type 0) (Is : Drive → Bool → Type 0) (old new : BookView D) → SameOrigin old new → StartsAs drive unlogged Is old.log → HasWorld new → IsShared drive unlogged Is new
 shared_still drive unlogged Is old new same starts has = record { has = has; start = starts_still drive unlogged Is old.log new.log same.log starts }
 
 -- of every book nothing is known
-pub any_start : {D : Type 0} (drive : D → Drive) (log : Option (KeptView D)) → StartsAs drive ⊤ (λ d. ⊤) log
+pub any_start : {D : Type 0} (drive : D → Drive) (log : Option (KeptView D)) → StartsAs drive ⊤ (λ d waits. ⊤) log
 any_start drive None = tt
 any_start drive (Some log) = tt

@@ -15,6 +15,7 @@ use Rattle.book_lock.specs.Ends.{EndsSplit}
 use Rattle.book_lock.specs.Pass.{Known}
 use Rattle.book_lock.specs.declared.origin.Origin.{Origin}
 use Rattle.sessions.specs.Calls.{call_fault, next_full}
+use Rattle.sessions.specs.Shared.{waits_in}
 use Rattle.sessions.specs.Steps.{all_parts, cells_at, has_seen}
 use Rattle.sessions.specs.declared.faults.CallFault.{CallFault}
 use Rattle.sessions.specs.declared.faults.CallFault.TheVariants.{Closed, Disk, HistoryFull, LogFull, Memory}
@@ -66,10 +67,11 @@ pub record HasDoneAll (w : ℕ) (old new : Known) (ops : List Op) (before : List
   pub answers_are : done.answers.items ≡ answers_to (world_after old.origin.world before) ops
   pub full_is : done.full ≡ next_full w new
 
--- The append failed. The history ends with the lost changes, of which there is one at least.
+-- The append failed. The history ends with the lost changes, of which there is one at least. If no record waits for a
+-- sync, the cell is the first one of the batch.
 pub record HasLost (session row : ℕ) (ops : List Op) (old new : Known) (before : List Entry) (cell : ℕ) : Type 0 where
   pub added : new ≡ has_added_all old before (batch_fails cell (world_after old.origin.world before) session row ops)
-  pub cell_is : cell ≡ cells_at old.origin before
+  pub cell_is : waits_in old.origin ≡ false → cell ≡ cells_at old.origin before
   pub change : list_any is_change (answers_to (world_after old.origin.world before) ops) ≡ true
 
 -- What a batch leaves. Its calls or its lost changes are the last that was seen, with no other entry between them, and

@@ -14,6 +14,7 @@ use Rattle.plain_list.specs.Size.{full_leaf}
 use Rattle.plain_list.specs.World.{World, places_of, IsWorld}
 use Rattle.index_layer.specs.Leaves.{Leaf}
 use Rattle.index_layer.specs.Stands.{Stands}
+use Rattle.disk_trait.specs.Drive.{Drive}
 use Rattle.commit_book.specs.declared.book.Done.{Done}
 use Rattle.commit_book.specs.declared.book.Snapshot.{Snapshot}
 use Rattle.commit_book.specs.declared.faults.BookFault.{BookFault}
@@ -25,6 +26,7 @@ use Rattle.book_lock.specs.declared.origin.Origin.{Origin}
 use Rattle.sessions.specs.Shared.{start_of}
 use Rattle.sessions.specs.Opens.{leaves_seen, places_seen, listed_by, Opens, OpensRefused}
 use Rattle.sessions.specs.Splits.{SamePass}
+use Rattle.sessions.specs.Syncs.{Stood}
 use Rattle.sessions.specs.Steps.{all_parts, cells_at, IsStep, has_added, has_seen}
 use Rattle.sessions.specs.declared.faults.CallFault.{CallFault}
 use Rattle.sessions.specs.declared.faults.CallFault.TheVariants.{Closed, Disk, HistoryFull, LogFull, Memory}
@@ -125,12 +127,13 @@ pub record Called (w session row : ℕ) (op : Op) (old new : Known) (result : Re
 abbrev pub OpensFor : ℕ → Op → Known → Result Done CallFault → ℕ → ℕ → Type 0
 OpensFor w op new result before now = Opens op (leaves_seen w new) (places_seen new) (listed_by (λ (done : Done). done.answer) result) before now
 
--- What a call leaves of its pass, and how often it opened a bucket.
-pub record CallEnds (w session row : ℕ) (op : Op) (old new : Known) (before now : ℕ) (result : Result Done CallFault) : Type 0 where
+-- What a call leaves of its pass and of the store's book, and how often it opened a bucket.
+pub record CallEnds {D : Type 0} (drive : D → Drive) (w session row : ℕ) (op : Op) (old new : Known) (before now : ℕ) (result : Result Done CallFault) : Type 0 where
   pub called : Called w session row op old new result
   pub opened : OpensFor w op new result before now
   pub refused : IfErr result (λ fault. OpensRefused fault before now)
   pub pass : SamePass old new
+  pub stood : Stood drive w new
 
 -- If the append failed, it was that of a change.
 abbrev pub LosesChange : {A : Type 0} → World → Op → Result A BookFault → Type 0

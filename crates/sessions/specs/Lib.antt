@@ -11,3 +11,4 @@ pub mod Lanes
 pub mod Rooms
 pub mod Runs
 pub mod Settles
+pub mod Syncs

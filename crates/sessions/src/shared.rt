@@ -17,6 +17,7 @@ ghost use Rattle.commit_book.specs.Answers.{IsUpdate, IsQuery, Notes, Replies, i
 ghost use Rattle.commit_book.specs.Batches.{RepliesAll, LeavesRefusedAll, batch_refusal};
 ghost use Rattle.commit_book.specs.BookView.{StandsAfter, next_number};
 ghost use Rattle.commit_book.specs.RoomLeft.{room_of};
+ghost use Rattle.commit_book.specs.Syncs.{Syncs, lost_sync};
 ghost use Rattle.commit_book.specs.SplitSteps.{Begins, CanPrepare, Installs, Abandons};
 ghost use Rattle.sessions.specs.Shared.{HasWorld, StandsBefore, StartsAs, TellsFull};
 
@@ -246,6 +247,16 @@ impl<I: Index, D: LogDisk, O: Start> SharedBook<I, D, O> {
             index,
             place: self.book.calls(),
         })
+    }
+
+    /// As the book's call of this name.
+    pub(crate) fn sync(&mut self) -> Result<u64, BookFault>
+        ensures ok { IfOk result (Syncs self.old self.new) }
+        ensures refused { IsRefusedBy IsMemoryOrDisk (call_refusal self.old.kept self.old.entries) result }
+        ensures err { IfErr result (LeavesRefused D.drive lost_sync self.old self.new) }
+        ensures book { AreBooks D.drive I.WIDTH self.old self.new }
+    {
+        self.book.sync()
     }
 
     /// As the book's call of this name.

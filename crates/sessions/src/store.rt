@@ -13,6 +13,7 @@ mod passes;
 mod runs;
 mod settling;
 mod splits;
+mod syncing;
 
 use crate::faults::has_entry;
 use crate::shared::SharedBook;

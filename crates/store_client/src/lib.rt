@@ -30,6 +30,7 @@ mod limits;
 mod pool;
 mod service;
 mod shares;
+mod syncing;
 mod verbs;
 
 pub use answers::{

@@ -1,5 +1,5 @@
 -- A store that continues over a second file.
-use Rattle.std.proofs.Common.{◌≡◌, ◌∙◌, ℕ, ◌≤◌, true, Bool, List, [], length, Option, Some, None, is_some, refl, sym, ap, subst}
+use Rattle.std.proofs.Common.{◌≡◌, ◌∙◌, ℕ, ◌≤◌, true, false, Bool, List, [], length, Option, Some, None, is_some, refl, sym, ap, subst}
 use Rattle.std.specs.Prelude.{⊤}
 use Rattle.std.specs.Option.{option_map}
 use mathlib.Core.Bool.{true≢false}
@@ -23,13 +23,13 @@ use Rattle.recovery.specs.Found.{Finds, IsNewest}
 use Rattle.recovery.proofs.CallLemmas.{well-none}
 use Rattle.recovery.specs.Opening.{KeepsCells}
 use Rattle.kept_log.specs.KeptView.{KeptView}
-use Rattle.kept_log.specs.Journal.{cells_in, disk_in, log_in}
+use Rattle.kept_log.specs.Journal.{written_in, disk_in, log_in}
 use Rattle.kept_log.specs.Kept.{IsOpened, found_state}
 use Rattle.book_lock.specs.Pass.{Known}
 use Rattle.book_lock.specs.declared.origin.Origin.{Origin}
 use Rattle.commit_book.specs.BookView.{BookView, first_log}
 use Rattle.commit_book.specs.Rotation.{HasContent, HasContentAnew, rotated}
-use Rattle.sessions.specs.Shared.{HasWorld, origin_of, start_of}
+use Rattle.sessions.specs.Shared.{HasWorld, StartsAs, origin_of, start_of}
 use Rattle.log_compact.specs.Compacting.{IsCompacted, KeepsOnWay}
 use Rattle.log_compact.specs.Fresh.{fresh_cells}
 use Rattle.log_compact.specs.State.{IsStateOf}
@@ -101,14 +101,18 @@ module _ {D : Type 0} where
   drive-in None view is = absurd (true≢false (sym (ap is_some is)))
   drive-in (Some log) view is = ap (λ (v : Option (LogView D)). option_map (λ (l : LogView D). l.disk) v) is
 
-  pub count-in : (log : Option (KeptView D)) (view : LogView D) → log_in log ≡ Some view → view.cells ≡ cells_in log
+  pub count-in : (log : Option (KeptView D)) (view : LogView D) → log_in log ≡ Some view → view.cells ≡ written_in log
   count-in None view is = absurd (true≢false (sym (ap is_some is)))
   count-in (Some log) view is = ap (λ (v : LogView D). v.cells) (sym (same_Some _ _ is))
+
+-- A book over another log writes each record at once if that log does.
+pub starts-over : {D : Type 0} (drive : D → Drive) (new b : BookView D) → new ≡ b → StartsAs drive ⊥ (λ start waits. waits ≡ false) b.log → StartsAs drive ⊥ (λ start waits. waits ≡ false) new.log
+starts-over {D = D} drive new b is starts = subst (λ (v : BookView D). StartsAs drive ⊥ (λ start waits. waits ≡ false) v.log) (sym is) starts
 
 -- A book continues over another log.
 module _ {D : Type 0} (drive : D → Drive) (b new : BookView D) (seen : Seen) (log : LogView D) (start : D) (is : new ≡ rotated seen log start b) (counts : log.cells ≡ seen.cells) where
   pub new-origin : origin_of drive new ≡ found_origin b.kept b.bucket seen (drive start)
-  new-origin = ap (origin_of drive) is ∙ stores.found-origin drive b.kept b.bucket seen (rotated seen log start b) (first_log log start) refl refl refl refl counts
+  new-origin = ap (origin_of drive) is ∙ stores.found-origin drive b.kept b.bucket seen (rotated seen log start b) (first_log log start) refl refl refl refl counts refl
 
   pub new-none : new.entries ≡ []
   new-none = ap (λ (v : BookView D). v.entries) is
@@ -204,13 +208,14 @@ module _ {D : Type 0} (drive : D → Drive) (w : ℕ) (b : BookView D) (old : Kn
     }
 
     module _ (Are : List (List Bool) → Type 0) (begun : BeginsOf drive w Are old spare seen start log) where
-      rotates-to : (last : D) (origin : Origin) → disk_in b.log ≡ Some last → origin ≡ found_origin b.kept b.bucket seen (drive start) → RotatesTo drive w Are old last spare origin (cells_in b.log)
+      rotates-to : (last : D) (origin : Origin) → disk_in b.log ≡ Some last → origin ≡ found_origin b.kept b.bucket seen (drive start) → RotatesTo drive w Are old last spare origin (written_in b.log)
       rotates-to last origin last_is from =
           let world : origin.world ≡ seen.world = ap (λ (o : Origin). o.world) from in
           let leaves : seen.leaves ≡ origin.leaves = sym (ap (λ (o : Origin). o.leaves) from) in
           let cells : fresh_cells w seen.world seen.leaves ≡ cells_left w old.origin old.seen origin.leaves = λ i. fresh_cells w (begun.world i) (leaves i) in
           let finds : Finds w (cells_left w old.origin old.seen origin.leaves) seen = subst (λ (l : List Cell). Finds w l seen) cells begun.begins.finds in
-          let ends = stores.closes-counted drive w ⊥ (λ d. ⊤) b old last closed.book closed.value closed.own (λ none. none) closed.starts last_is in
+          let ends = stores.any-counted drive w _ old last (written_in b.log)
+          (stores.closes-counted drive w ⊥ (λ start waits. waits ≡ false) b old last closed.book closed.value closed.own (λ none. none) (λ start waits is. is) closed.starts last_is) in
           record {
             closed = ends.0;
             counted = ends.1;
@@ -225,7 +230,7 @@ module _ {D : Type 0} (drive : D → Drive) (w : ℕ) (b : BookView D) (old : Kn
               world = finds.world i;
               leaves = finds.leaves i;
               begun = finds.begun i;
-              log = Some (record { cells = finds.count i; bytes = (drive start).bytes; clock = (drive start).clock; faults = (drive start).faults });
+              log = Some (record { cells = finds.count i; bytes = (drive start).bytes; clock = (drive start).clock; faults = (drive start).faults; at_sync = false });
               bucket = bucket-as i;
               kept = kept-as i;
             });
@@ -239,7 +244,7 @@ module _ {D : Type 0} (drive : D → Drive) (w : ℕ) (b : BookView D) (old : Kn
           let origin : pass.origin ≡ found_origin b.kept b.bucket seen (drive start) = ap (λ (k : Known). k.origin) on.pass_is in
           record {
             last = on.leaves.last;
-            count = cells_in b.log;
+            count = written_in b.log;
             to = rotates-to on.leaves.last pass.origin on.leaves.last_is origin;
             pass_is = on.pass_is ∙ ap (first_pass lock) (sym origin);
             leaves = on.leaves.leaves;
@@ -248,7 +253,7 @@ module _ {D : Type 0} (drive : D → Drive) (w : ℕ) (b : BookView D) (old : Kn
       alone : (Came : ℕ → Drive → Drive → Type 0) (new : BookView D) (left : D) → GoesAlone drive Came b seen start new left → IsRotatedAlone drive w Are Came old spare new left
       alone Came new left on = record {
         last = on.leaves.last;
-        count = cells_in b.log;
+        count = written_in b.log;
         to = rotates-to on.leaves.last (origin_of drive new) on.leaves.last_is on.origin_is;
         none = on.none;
         has = on.has;

@@ -2,6 +2,7 @@
 use Rattle.std.proofs.Common.{◌≡◌, inl, inr, ⊎_elim, ◌∙◌, ℕ, ◌<◌, Bool, true, false, List, [], length, Option, Some, None, is_some, refl, sym, ap, subst}
 use mathlib.Core.Bool.{true≢false}
 use Rattle.std.proofs.lemmas.Option.{same_Some}
+use Rattle.std.specs.Prelude.{⊤}
 use Rattle.std.specs.Option.{option_map}
 use Rattle.atomic_table.specs.Seated.{TableId}
 use Rattle.cell_format.specs.Spelling.{newest}
@@ -17,7 +18,8 @@ use Rattle.recovery.specs.Making.{IsSmall}
 use Rattle.recovery.proofs.OpeningLemmas.{newest_is}
 use Rattle.kept_log.specs.KeptView.{KeptView}
 use Rattle.kept_log.specs.Kept.{found_state}
-use Rattle.kept_log.specs.Journal.{KeepsIn, KeepsLog, cells_in, disk_in}
+use Rattle.kept_log.specs.Journal.{KeepsIn, KeepsLog, written_in, disk_in}
+use Rattle.kept_log.proofs.Waiting.{keeps-at-once}
 use Rattle.kept_log.proofs.Starting.{opened-found}
 use Rattle.book_lock.specs.Own.{times, once_below}
 use Rattle.book_lock.specs.Pass.{Known}
@@ -41,19 +43,19 @@ module _ {D : Type 0} where
   has-drive None is = absurd (true≢false (sym is))
   has-drive (Some log) is = refl
 
-  pub has-log : (drive : D → Drive) (unlogged : Type 0) (Is : Drive → Type 0) (log : Option (KeptView D)) → (unlogged → ⊥) → StartsAs drive unlogged Is log → is_some log ≡ true
+  pub has-log : (drive : D → Drive) (unlogged : Type 0) (Is : Drive → Bool → Type 0) (log : Option (KeptView D)) → (unlogged → ⊥) → StartsAs drive unlogged Is log → is_some log ≡ true
   has-log drive unlogged Is None logged starts = absurd (logged starts)
   has-log drive unlogged Is (Some log) logged starts = refl
 
 -- What a closed book leaves.
-module _ {D : Type 0} (drive : D → Drive) (w : ℕ) (unlogged : Type 0) (Is : Drive → Type 0) (b : BookView D) (pass : Known) (disk : D) (is_book : IsBook drive w b)
-    (value : (b.entries ≡ pass.seen) × (origin_of drive b ≡ pass.origin)) (own : (p : ℕ) → times p pass.own ≡ once_below p (length pass.seen)) (logged : unlogged → ⊥) (starts : StartsAs drive unlogged Is b.log)
+module _ {D : Type 0} (drive : D → Drive) (w : ℕ) (unlogged : Type 0) (Is : Drive → Bool → Type 0) (b : BookView D) (pass : Known) (disk : D) (is_book : IsBook drive w b)
+    (value : (b.entries ≡ pass.seen) × (origin_of drive b ≡ pass.origin)) (own : (p : ℕ) → times p pass.own ≡ once_below p (length pass.seen)) (logged : unlogged → ⊥) (once : (start : D) (waits : Bool) → Is (drive start) waits → waits ≡ false) (starts : StartsAs drive unlogged Is b.log)
     (disk_is : disk_in b.log ≡ Some disk) where
   began-at : b.opening ≡ start_of pass.origin
   began-at = (λ i. record { world = b.opening.world; leaves = b.opening.leaves; splits = is_book.opening.rests i; begun = b.opening.begun }) ∙ ap start_of value.1
 
   -- The log has the same number of cells.
-  cells-by-log : (log : Option (KeptView D)) → b.log ≡ log → (closed : ClosesStore drive w Is pass disk) × (closed.log.cells ≡ cells_in log)
+  cells-by-log : (log : Option (KeptView D)) → b.log ≡ log → (closed : ClosesStore drive w (λ start. Is start false) pass disk) × (closed.log.cells ≡ written_in log)
   cells-by-log None is = absurd (logged (subst (StartsAs drive unlogged Is) is starts))
   cells-by-log (Some log) is = (
     record {
@@ -62,37 +64,58 @@ module _ {D : Type 0} (drive : D → Drive) (w : ℕ) (unlogged : Type 0) (Is : 
       log = log;
       disk_is = same_Some log.disk disk (sym (ap disk_in is) ∙ disk_is);
       began = sym (ap (λ (o : Origin). o.log) value.1) ∙ ap (λ (l : Option (KeptView D)). option_map (start_in drive) l) is;
-      starts = subst (StartsAs drive unlogged Is) is starts;
+      starts = subst (λ (waits : Bool). Is (drive log.start) waits) at-once (subst (StartsAs drive unlogged Is) is starts);
       keeps = subst (λ (s : State). KeepsLog drive w s pass.seen log) began-at
-          (subst (λ (h : List Entry). KeepsLog drive w b.opening h log) value.0 (subst (λ (l : Option (KeptView D)). KeepsIn drive w b.opening b.entries l) is is_book.on_log));
+          (subst (λ (h : List Entry). KeepsLog drive w b.opening h log) value.0
+          (keeps-at-once drive w b.opening b.entries log (subst (λ (l : Option (KeptView D)). KeepsIn drive w b.opening b.entries l) is is_book.on_log) at-once));
     },
     refl,
   )
+    where
+      at-once : log.at_sync ≡ false
+      at-once = once log.start log.at_sync (subst (StartsAs drive unlogged Is) is starts)
 
-  pub closes-counted : (closed : ClosesStore drive w Is pass disk) × (closed.log.cells ≡ cells_in b.log)
+  pub closes-counted : (closed : ClosesStore drive w (λ start. Is start false) pass disk) × (closed.log.cells ≡ written_in b.log)
   closes-counted = cells-by-log b.log refl
 
-  pub closes-store : ClosesStore drive w Is pass disk
+  pub closes-store : ClosesStore drive w (λ start. Is start false) pass disk
   closes-store = closes-counted.0
+
+-- Nothing need be known of the drive at the opening.
+pub closes-any : {D : Type 0} (drive : D → Drive) (w : ℕ) (Is : Drive → Type 0) (pass : Known) (disk : D) → ClosesStore drive w Is pass disk → ClosesStore drive w (λ start. ⊤) pass disk
+closes-any drive w Is pass disk closed = record {
+  own = closed.own;
+  legal = closed.legal;
+  log = closed.log;
+  disk_is = closed.disk_is;
+  began = closed.began;
+  starts = tt;
+  keeps = closed.keeps;
+}
+
+pub any-counted : {D : Type 0} (drive : D → Drive) (w : ℕ) (Is : Drive → Type 0) (pass : Known) (disk : D) (count : ℕ) → (closed : ClosesStore drive w Is pass disk) × (closed.log.cells ≡ count)
+    → (closed : ClosesStore drive w (λ start. ⊤) pass disk) × (closed.log.cells ≡ count)
+unfolding closes-any
+any-counted drive w Is pass disk count ends = (closes-any drive w Is pass disk ends.0, ends.1)
 
 -- A book over what was found begins with it.
 module _ {D : Type 0} (drive : D → Drive) (kept : Bool) (bucket : ℕ) (seen : Seen) (b : BookView D) (log : KeptView D) (opening : b.opening ≡ found_state seen) (kind : b.kept ≡ kept) (sized : b.bucket ≡ bucket) (log_is : b.log ≡ Some log) where
   pub found-world : IsWorld seen.world → IsWorld b.opening.world
   found-world is = subst IsWorld (sym (ap (λ (s : State). s.world) opening)) is
 
-  pub found-starts : (unlogged : Type 0) (Is : Drive → Type 0) → Is (drive log.start) → StartsAs drive unlogged Is b.log
+  pub found-starts : (unlogged : Type 0) (Is : Drive → Bool → Type 0) → Is (drive log.start) log.at_sync → StartsAs drive unlogged Is b.log
   found-starts unlogged Is is = subst (StartsAs drive unlogged Is) (sym log_is) is
 
   pub found-disk : (disk : D) → disk_in b.log ≡ Some disk → disk ≡ log.disk
   found-disk disk is = same_Some disk log.disk (sym is ∙ ap disk_in log_is)
 
-  pub found-origin : log.first ≡ seen.cells → origin_of drive b ≡ found_origin kept bucket seen (drive log.start)
-  found-origin first = λ i. record {
+  pub found-origin : log.first ≡ seen.cells → log.at_sync ≡ false → origin_of drive b ≡ found_origin kept bucket seen (drive log.start)
+  found-origin first once = λ i. record {
     world = (opening i).world;
     leaves = (opening i).leaves;
     begun = (opening i).begun;
     log = (ap (λ (l : Option (KeptView D)). option_map (start_in drive) l) log_is
-        ∙ ap (λ (n : ℕ). Some (record { cells = n; bytes = (drive log.start).bytes; clock = (drive log.start).clock; faults = (drive log.start).faults })) first) i;
+        ∙ (λ j. Some (record { cells = first j; bytes = (drive log.start).bytes; clock = (drive log.start).clock; faults = (drive log.start).faults; at_sync = once j }))) i;
     bucket = sized i;
     kept = kind i;
   }
@@ -103,7 +126,7 @@ cells-found kept w bucket old start seen found = λ i. record {
   world = found.finds.world i;
   leaves = found.finds.leaves i;
   begun = found.finds.begun i;
-  log = Some (record { cells = found.finds.count i; bytes = start.bytes; clock = start.clock; faults = start.faults });
+  log = Some (record { cells = found.finds.count i; bytes = start.bytes; clock = start.clock; faults = start.faults; at_sync = false });
   bucket = bucket;
   kept = kept;
 }

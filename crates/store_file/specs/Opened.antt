@@ -24,14 +24,14 @@ pub record IsFirst (lock : TableId) (pass : Known) : Type 0 where
   pub off : pass.holds ≡ false
   pub parts : pass.parts ≡ all_parts
 
--- The origin of a store over what was found in a log. `start` is the drive at that moment, and `kept` is whether its book
+-- The origin of a store over what was found in a log, to which each record is written at once. `start` is the drive at that moment, and `kept` is whether its book
 -- keeps the list of its entries.
 abbrev pub found_origin : Bool → ℕ → Seen → Drive → Origin
 found_origin kept bucket seen start = record {
   world = seen.world;
   leaves = seen.leaves;
   begun = seen.begun;
-  log = Some (record { cells = seen.cells; bytes = start.bytes; clock = start.clock; faults = start.faults });
+  log = Some (record { cells = seen.cells; bytes = start.bytes; clock = start.clock; faults = start.faults; at_sync = false });
   bucket = bucket;
   kept = kept;
 }
@@ -42,7 +42,7 @@ cells_origin kept w bucket cells start = record {
   world = (state_of w cells).world;
   leaves = (state_of w cells).leaves;
   begun = (state_of w cells).begun;
-  log = Some (record { cells = length cells; bytes = start.bytes; clock = start.clock; faults = start.faults });
+  log = Some (record { cells = length cells; bytes = start.bytes; clock = start.clock; faults = start.faults; at_sync = false });
   bucket = bucket;
   kept = kept;
 }

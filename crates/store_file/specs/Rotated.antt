@@ -1,6 +1,6 @@
 -- A store that continues over a second file. Its objects were written there as a fresh log, with its leaves or with new
 -- ones.
-use Rattle.std.specs.Prelude.{◌≡◌, ℕ, ◌<◌, ◌≤◌, true, Bool, List, [], length, Option, Some, None, is_some, ⊤}
+use Rattle.std.specs.Prelude.{◌≡◌, ℕ, ◌<◌, ◌≤◌, true, false, Bool, List, [], length, Option, Some, None, is_some, ⊤}
 use Rattle.atomic_table.specs.Seated.{TableId}
 use Rattle.cell_format.specs.declared.cell.Cell.{Cell}
 use Rattle.disk_trait.specs.Drive.{Drive}
@@ -13,7 +13,7 @@ use Rattle.split_log.specs.LogView.{most_cells}
 use Rattle.split_log.specs.LogView.{LogView}
 use Rattle.recovery.specs.declared.seen.Seen.{Seen}
 use Rattle.recovery.specs.Found.{Finds}
-use Rattle.kept_log.specs.Journal.{cells_in, disk_in}
+use Rattle.kept_log.specs.Journal.{written_in, disk_in}
 use Rattle.commit_book.specs.OpenedLog.{IsOpenedLog}
 use Rattle.commit_book.specs.IsBook.{IsBook}
 use Rattle.commit_book.specs.declared.faults.BookFault.{BookFault}
@@ -104,7 +104,7 @@ pub record IsClosedBook {D : Type 0} (drive : D → Drive) (w : ℕ) (pass : Kno
   pub book : IsBook drive w b
   pub value : (b.entries ≡ pass.seen) × (origin_of drive b ≡ pass.origin)
   pub own : (p : ℕ) → times p pass.own ≡ once_below p (length pass.seen)
-  pub starts : StartsAs drive ⊥ (λ start. ⊤) b.log
+  pub starts : StartsAs drive ⊥ (λ start waits. waits ≡ false) b.log
   pub has : HasWorld b
 
 -- The cause if a store returns no content.
@@ -197,7 +197,7 @@ pub record BeginsAnew {D : Type 0} (drive : D → Drive) (w : ℕ) (pass : Known
 pub record LeavesOf {D : Type 0} (drive : D → Drive) (Came : ℕ → Drive → Drive → Type 0) (b : BookView D) (left : D) : Type 0 where
   pub last : D
   pub last_is : disk_in b.log ≡ Some last
-  pub leaves : LeavesLog drive Came (cells_in b.log) last left
+  pub leaves : LeavesLog drive Came (written_in b.log) last left
 
 -- A store continues from a book over another log, and the old log was cleared. `seen` was found in the other log, and
 -- `start` is its drive at that moment.

@@ -1,5 +1,5 @@
 //! Closes a store over a file.
-ghost use Rattle.std.specs.Prelude.{◌≡◌, true, false, Some, is_some, ⊤};
+ghost use Rattle.std.specs.Prelude.{◌≡◌, Bool, true, false, Some, is_some, ⊤};
 ghost use Rattle.kept_log.specs.Journal.{disk_in, failed_cell};
 ghost use Rattle.sessions.specs.Steps.{all_parts};
 ghost use Rattle.store_file.specs.Closed.{ClosesStore};
@@ -35,17 +35,18 @@ pub fn close_store<I: Index, D: LogDisk>(
     close_over::<I, D, OverFile>(store, pass)
 }
 
-/// The same for a store with a fact about its drive (`Start`), if no book without a log has that fact. The contract
-/// says that the fact held of the drive when its log was opened.
+/// The same for a store with a fact about its drive (`Start`), if no book without a log has that fact, and none whose
+/// records wait for a sync. The contract says that the fact held of the drive when its log was opened.
 pub fn close_over<I: Index, D: LogDisk, O: Start>(
     store: Store<I, D, O>,
     pass: Pass<SharedBook<I, D, O>>,
 ) -> ClosedStore<D>
     requires logged { O.unlogged → ⊥ }
+    requires once { (start : D) (waits : Bool) → O.is (D.drive start) waits → waits ≡ false }
     requires lock { pass.lock ≡ store }
     requires off { pass.holds ≡ false }
     requires parts { pass.parts ≡ all_parts }
-    ensures closes { ClosesStore D.drive I.WIDTH O.is pass result.disk }
+    ensures closes { ClosesStore D.drive I.WIDTH (λ start. O.is start false) pass result.disk }
     ensures lost { result.lost ≡ failed_cell pass.seen }
 {
     let book = store.close(pass);

@@ -74,7 +74,7 @@ pub fn open_over<I: Index, D: LogDisk, O: Start>(
     file: &str,
     bucket: u32,
 ) -> Result<OpenedStore<I, D, O>, NotOpened<D>>
-    requires start { (start : D) → ReadiesLog I.WIDTH file.now (D.drive disk) (D.drive start) → O.is (D.drive start) }
+    requires start { (start : D) → ReadiesLog I.WIDTH file.now (D.drive disk) (D.drive start) → O.is (D.drive start) false }
     ensures opened { IfOk result (λ o. OpensStore D.drive I.WIDTH bucket file.now (D.drive disk)
         o.store o.pass o.points o.latest o.records) }
     ensures first { IfOk result (λ o. IsFirst o.store o.pass) }
@@ -111,7 +111,7 @@ pub(crate) fn store_of<I: Index, D: LogDisk, O: Start>(
     bucket: u32,
 ) -> Result<OpenedStore<I, D, O>, NotOpened<D>>
     requires opened { IsOpenedLog D.drive I.WIDTH opened.seen opened.start.value opened.log }
-    requires start { O.is (D.drive opened.start.value) }
+    requires start { O.is (D.drive opened.start.value) false }
     ensures begins { IfOk result (λ o. BeginsOver D.drive bucket opened.seen opened.start.value
         o.store o.pass o.points o.latest o.records) }
     ensures back { IfErr result (λ e. (e.disk ≡ opened.log.disk) × (e.cause ≡ OpenCause.Memory)) }

@@ -4,6 +4,7 @@ ghost use Rattle.plain_list.specs.History.{failed_cell};
 ghost use Rattle.plain_list.specs.State.{ComesBySplits};
 ghost use Rattle.plain_list.specs.World.{IsWorld};
 ghost use Rattle.split_log.specs.LogView.{LogView};
+ghost use Rattle.sessions.specs.Shared.{StartsAs};
 ghost use Rattle.sessions.specs.Steps.{all_parts};
 ghost use Rattle.store_file.specs.Rotated.{world_left, AreLeft, AreAnew, BeginsAnew, BeginsFresh, BeginsLeft, IsClosedBook};
 ghost use Rattle.store_file.specs.Rotated.{Finishes, FinishesNot, IsRotated, IsNotRotated, NotBegins, ComesBack, begin_cause, content_cause};
@@ -303,6 +304,7 @@ fn finish<I: Index, D: LogDisk>(
     requires none { replaced.book.entries ≡ [] }
     requires world { IsWorld replaced.book.opening.world }
     requires logged { is_some replaced.book.log ≡ true }
+    requires starts { StartsAs D.drive ⊥ (λ start waits. waits ≡ false) replaced.book.log }
     requires log { is_some replaced.log ≡ true }
     requires good { (log : LogView D) → replaced.log ≡ Some log → log.failed ≡ None }
     ensures finished { IfOk result (λ r. Finishes D.drive replaced.book replaced.log r.store r.pass r.spare) }

@@ -1,5 +1,5 @@
 -- Books on which rows are played, and what they leave.
-use Rattle.std.specs.Prelude.{◌≡◌, ◌⊎◌, ℕ, ◌≤◌, true, false, List, [], length, Option, Some, None, ⊤}
+use Rattle.std.specs.Prelude.{◌≡◌, ◌⊎◌, ℕ, ◌≤◌, Bool, true, false, List, [], length, Option, Some, None, ⊤}
 use Rattle.std.specs.Option.{option_map}
 use Rattle.disk_trait.specs.Drive.{Drive, AttachedOne, SameFile, Stays}
 use Rattle.plain_list.specs.declared.entries.Entry.{Entry}
@@ -47,11 +47,12 @@ abbrev pub is_unlogged : {D : Type 0} → Option (KeptView D) → Type 0
 is_unlogged None = ⊤
 is_unlogged (Some log) = ⊥
 
-abbrev pub is_opened : {D : Type 0} → (D → Drive) → Option (KeptView D) → Drive → Type 0
-is_opened drive None start = ⊥
-is_opened drive (Some log) start = IsLike (drive log.start) start
+abbrev pub is_opened : {D : Type 0} → (D → Drive) → Option (KeptView D) → Drive → Bool → Type 0
+is_opened drive None start waits = ⊥
+is_opened drive (Some log) start waits = IsLike (drive log.start) start × (waits ≡ log.at_sync)
 
--- neither book has a log, or the log of the new one was opened on a drive like that of the old one
+-- neither book has a log, or the log of the new one was opened on a drive like that of the old one and is written in the
+-- same way
 abbrev pub BeginsAs : {D : Type 0} → (D → Drive) → Option (KeptView D) → Option (KeptView D) → Type 0
 BeginsAs drive old new = StartsAs drive (is_unlogged old) (is_opened drive old) new
 
@@ -74,11 +75,12 @@ pub record OpensFile (file : List ℕ) (old start now : Drive) (w : ℕ) (seen :
   pub keeps : KeepsCells w old now
   pub shows : (bytes : List ℕ) (fault : OpenFault) → old.bytes ≡ Some bytes → IsInBytes fault → IsFault oldest_played None most_played bytes fault → ⊥
 
--- a book of this width on the log that stood on a drive, whose bytes have no fault
+-- a book of this width on the log that stood on a drive, whose bytes have no fault; each record is written at once
 pub record OpensBook {D : Type 0} (drive : D → Drive) (file : List ℕ) (old : Drive) (w size : ℕ) (b : BookView D) : Type 0 where
   pub bucket : b.bucket ≡ size
   pub log : KeptView D
   pub log_is : b.log ≡ Some log
+  pub once : log.at_sync ≡ false
   pub from : Origin
   pub found : IsFoundOrigin old from
   pub width : from.width ≡ w

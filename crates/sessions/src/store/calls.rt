@@ -5,6 +5,7 @@ ghost use Rattle.commit_book.specs.Answers.{IsUpdate, IsQuery};
 ghost use Rattle.sessions.specs.Calls.{CallEnds, Called, Looks, OpensFor, Updates};
 ghost use Rattle.sessions.specs.Opens.{OpensRefused};
 ghost use Rattle.sessions.specs.Splits.{SamePass};
+ghost use Rattle.sessions.specs.Syncs.{Stood};
 
 use super::Store;
 use crate::faults::{CallFault, call_fault};
@@ -45,7 +46,8 @@ impl<I: Index, D: LogDisk, O: Start> Store<I, D, O> {
         requires lock { pass.old.lock ≡ self.now }
         requires off { pass.old.holds ≡ false }
         requires update { IsUpdate request.now.op }
-        ensures { Updates I.WIDTH request.now.session request.now.row request.now.op pass.old pass.new result }
+        ensures updates { Updates I.WIDTH request.now.session request.now.row request.now.op pass.old pass.new result }
+        ensures stood { Stood D.drive I.WIDTH pass.new }
     {
         let mut book = self.take(rt, pass);
         let answer = book.update(request.session, request.row, &request.op);
@@ -65,6 +67,7 @@ impl<I: Index, D: LogDisk, O: Start> Store<I, D, O> {
         requires query { IsQuery request.now.op }
         ensures looks { Looks I.leaves I.WIDTH request.now.session request.now.row request.now.op pass.old pass.new result }
         ensures free { pass.new.holds ≡ false }
+        ensures stood { Stood D.drive I.WIDTH pass.new }
     {
         let mut book = self.take(rt, pass);
         let answer = book.snapshot(request.session, request.row, &request.op);
@@ -89,6 +92,7 @@ impl<I: Index, D: LogDisk, O: Start> Store<I, D, O> {
         ensures called { Called I.WIDTH request.now.session request.now.row request.now.op pass.old pass.new result }
         ensures opened { OpensFor I.WIDTH request.now.op pass.new result steps.old steps.new }
         ensures refused { IfErr result (λ fault. OpensRefused fault steps.old steps.new) }
+        ensures stood { Stood D.drive I.WIDTH pass.new }
     {
         let shown = match self.look(rt, pass, request) {
             Ok(shown) => shown,
@@ -126,6 +130,7 @@ impl<I: Index, D: LogDisk, O: Start> Store<I, D, O> {
         ensures called { Called I.WIDTH request.now.session request.now.row request.now.op pass.old pass.new result }
         ensures opened { OpensFor I.WIDTH request.now.op pass.new result steps.old steps.new }
         ensures refused { IfErr result (λ fault. OpensRefused fault steps.old steps.new) }
+        ensures stood { Stood D.drive I.WIDTH pass.new }
     {
         match request.op {
             Op::Within { .. } => self.query(rt, alloc, pass, request, points, steps),
@@ -149,7 +154,7 @@ impl<I: Index, D: LogDisk, O: Start> Store<I, D, O> {
         requires lock { pass.old.lock ≡ self.now }
         requires off { pass.old.holds ≡ false }
         requires valid { IsValid op.now }
-        ensures { CallEnds I.WIDTH session row op.now pass.old pass.new steps.old steps.new result }
+        ensures { CallEnds D.drive I.WIDTH session row op.now pass.old pass.new steps.old steps.new result }
     {
         pass.will_read(is_read(op));
         let request = Request {
@@ -182,6 +187,7 @@ impl<I: Index, D: LogDisk, O: Start> Store<I, D, O> {
         ensures opened { OpensFor I.WIDTH op.now pass.new result steps.old steps.new }
         ensures refused { IfErr result (λ fault. OpensRefused fault steps.old steps.new) }
         ensures pass { SamePass pass.old pass.new }
+        ensures stood { Stood D.drive I.WIDTH pass.new }
     {
         let points = Points::at(gate);
         self.call_at(rt, alloc, pass, session, row, op, &points, steps)

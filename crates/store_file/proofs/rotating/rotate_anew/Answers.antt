@@ -1,8 +1,8 @@
-use Rattle.std.proofs.Common.{subst}
+use Rattle.std.proofs.Common.{refl, subst}
 use Rattle.book_lock.specs.Pass.{Known}
 use Rattle.store_file.specs.Rotated.{AreAnew, IsClosedBook}
 use Rattle.store_file.proofs.Results.{ok-with, err-with}
-use Rattle.store_file.proofs.RotateFacts.{comes-back, content-anew, is-rotated, not-rotated, goes-on, goes-not}
+use Rattle.store_file.proofs.RotateFacts.{comes-back, content-anew, is-rotated, not-rotated, goes-on, goes-not, starts-over}
 use Rattle.store_file.proofs.rotating.rotate_anew.Goals as goal
 
 pub rotate_anew-requires-clause-content : goal.rotate_anew-requires-clause-content
@@ -14,6 +14,9 @@ rotate_anew-requires-clause-content g c =
     let b = c.book_of.result in
     let closed = subst (λ (k : Known). IsClosedBook drive w k b) c.begin_anew.ensures.same c.book_of.ensures in
     content-anew drive w b c.args.pass closed c.args.spare opened.start.value opened.seen opened.log leaves c.in-Ok.ensures.begun
+
+pub finish-requires-clause-starts : goal.finish-requires-clause-starts
+finish-requires-clause-starts g c = starts-over g.D.LogDisk.drive _ _ c.rotate_anew.ensures.rotated refl
 
 pub returns-in-Ok-clause-rotated : goal.returns-in-Ok-clause-rotated
 returns-in-Ok-clause-rotated g c =

@@ -1,8 +1,8 @@
-use Rattle.std.proofs.Common.{subst}
+use Rattle.std.proofs.Common.{refl, subst}
 use Rattle.book_lock.specs.Pass.{Known}
 use Rattle.store_file.specs.Rotated.{AreLeft, IsClosedBook}
 use Rattle.store_file.proofs.Results.{ok-with, err-with}
-use Rattle.store_file.proofs.RotateFacts.{comes-back, content-left, is-rotated, not-rotated, goes-on, goes-not}
+use Rattle.store_file.proofs.RotateFacts.{comes-back, content-left, is-rotated, not-rotated, goes-on, goes-not, starts-over}
 use Rattle.store_file.proofs.rotating.rotate_store.Goals as goal
 
 pub rotate-requires-clause-content : goal.rotate-requires-clause-content
@@ -13,6 +13,9 @@ rotate-requires-clause-content g c =
     let b = c.book_of.result in
     let closed = subst (λ (k : Known). IsClosedBook drive w k b) c.begin_as_is.ensures.same c.book_of.ensures in
     content-left drive w b c.args.pass closed c.args.spare opened.start.value opened.seen opened.log c.in-Ok.ensures.begun
+
+pub finish-requires-clause-starts : goal.finish-requires-clause-starts
+finish-requires-clause-starts g c = starts-over g.D.LogDisk.drive _ _ c.rotate.ensures.rotated refl
 
 pub returns-in-Ok-clause-rotated : goal.returns-in-Ok-clause-rotated
 returns-in-Ok-clause-rotated g c =

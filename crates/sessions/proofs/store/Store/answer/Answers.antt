@@ -33,9 +33,10 @@ pub returns-in_default : goal.returns-in_default
 returns-in_default g c =
     let is = updates c.args.request.now.op c.in_default.not-Within c.in_default.not-Near in
     record {
-      called = change-answers g.I.Index.WIDTH c.args.request.now.session c.args.request.now.row c.args.request.now.op c.args.pass.now c.update.new.pass c.update.result c.map_err.result is c.update.ensures c.map_err.ensures.cases;
+      called = change-answers g.I.Index.WIDTH c.args.request.now.session c.args.request.now.row c.args.request.now.op c.args.pass.now c.update.new.pass c.update.result c.map_err.result is c.update.ensures.updates c.map_err.ensures.cases;
       opened = opens-still c.args.request.now.op _ _ _ c.args.steps.now is;
       refused = result-still c.map_err.result c.args.steps.now;
+      stood = c.update.ensures.stood;
     }
 
 pub query-requires-clause-query : goal.query-requires-clause-query
@@ -47,4 +48,4 @@ query-requires-in-Near-clause-query g c = subst IsQuery (sym c.in-Near.is) tt
 pub map_err-requires : goal.map_err-requires
 map_err-requires g c = λ fault is.
     change-fault g.I.Index.WIDTH c.args.request.now.session c.args.request.now.row c.args.request.now.op c.args.pass.now c.update.new.pass fault
-    (subst (λ (r : Result Done BookFault). Updates g.I.Index.WIDTH c.args.request.now.session c.args.request.now.row c.args.request.now.op c.args.pass.now c.update.new.pass r) is c.update.ensures)
+    (subst (λ (r : Result Done BookFault). Updates g.I.Index.WIDTH c.args.request.now.session c.args.request.now.row c.args.request.now.op c.args.pass.now c.update.new.pass r) is c.update.ensures.updates)

@@ -14,6 +14,7 @@ returns g c =
       opened = c.answer-answer.ensures.opened;
       refused = c.answer-answer.ensures.refused;
       pass = called-same g.I.Index.WIDTH c.args.session c.args.row c.args.op.now c.args.pass.now new c.answer-answer.result called;
+      stood = c.answer-answer.ensures.stood;
     }
 
 pub reach-requires : goal.reach-requires

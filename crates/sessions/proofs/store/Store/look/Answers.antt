@@ -8,6 +8,7 @@ use Rattle.book_lock.specs.Ends.{MayNote}
 use Rattle.sessions.specs.Steps.{has_entry}
 use Rattle.sessions.proofs.StepLemmas.{call-may, given-free, may-give, says-all}
 use Rattle.sessions.proofs.CallLemmas.{look-step, looked}
+use Rattle.sessions.proofs.SyncLemmas.{stood-step}
 use Rattle.sessions.proofs.store.Store.look.Goals as goal
 
 pub give-requires-clause-entries : goal.give-requires-clause-entries
@@ -34,3 +35,16 @@ returns-clause-looks g c =
 
 pub returns-clause-free : goal.returns-clause-free
 returns-clause-free g c = ap (λ (k : Known). k.holds) c.give.ensures ∙ given-free c.take-book.new.pass (has_entry c.snapshot-answer.result) c.snapshot-answer.new.self.entries
+
+pub returns-clause-stood : goal.returns-clause-stood
+returns-clause-stood g c =
+    let snapshot = c.snapshot-answer.ensures in
+    let b = c.take-book.result in
+    let old = c.args.pass.now in
+    let took = c.take-book.new.pass in
+    let mid = c.snapshot-answer.new.self in
+    let op = c.args.request.now.op in
+    let was = c.take-book.ensures in
+    stood-step g.D.LogDisk.drive g.I.Index.WIDTH IsMemory (call_refusal b.kept b.entries) (λ (s : Snapshot g.row.I.Denot g.row.I-Place.Denot). Call c.args.request.now.session c.args.request.now.row op) (lost.Call c.args.request.now.session c.args.request.now.row op) b mid old took c.give.new.pass was snapshot.book c.snapshot-answer.result
+    (look-step g.I.Index.leaves g.D.LogDisk.drive g.I.Index.WIDTH b mid old took took c.args.request.now.session c.args.request.now.row op was snapshot.book c.snapshot-answer.result snapshot.ok snapshot.refused snapshot.err)
+    c.give.ensures
