@@ -3,9 +3,10 @@ ghost use Rattle.std.specs.Prelude.{◌≡◌, ◌≤◌};
 ghost use Rattle.zorder.specs.Region.{IsBox};
 ghost use Rattle.plain_list.specs.Answer.{IsValid};
 ghost use Rattle.store_client.specs.Asked.{Asked};
+ghost use Rattle.store_client.specs.Caller.{world_seen};
 ghost use Rattle.store_client.specs.Verbs.{put_answer, move_answer, gone_answer, at_answer};
 ghost use Rattle.store_client.specs.Verbs.{listed_answer, nearest_answer, AskedAs, Reports};
-ghost use Rattle.pisrakun.specs.Now.{DoesNow};
+ghost use Rattle.pisrakun.specs.Now.{DoesNow, report_answer, report_op};
 ghost use Rattle.pisrakun.specs.Sessions.{labelled, label_of};
 
 use crate::label::Label;
@@ -176,6 +177,8 @@ impl<'w, I: Index, D: LogDisk, O: Start> Session<'w, I, D, O> {
         ensures same { self.new.store.ghost_name ≡ self.old.store.ghost_name }
         ensures reports { Reports I.WIDTH id at moment
             (labelled self.old.store.now self.old.label) (labelled self.new.store.now self.new.label) result }
+        ensures now { DoesNow report_answer (report_op id at moment (world_seen self.old.store.now.pass))
+            self.old.store.now self.new.store.now result }
         ensures other { label_of self.new.store.now ≡ label_of self.old.store.now }
     {
         let others = self.store.relabel(self.label);

@@ -1,10 +1,10 @@
 //! The verbs of a store: calls that return just the answers that they may have.
 ghost use Rattle.std.specs.Prelude.{◌≤◌};
 ghost use Rattle.zorder.specs.Region.{IsBox};
-ghost use Rattle.store_client.specs.Caller.{Keeps};
+ghost use Rattle.store_client.specs.Caller.{Keeps, world_seen};
 ghost use Rattle.store_client.specs.Verbs.{put_answer, move_answer, gone_answer, at_answer};
-ghost use Rattle.store_client.specs.Verbs.{listed_answer, nearest_answer, AskedAs, TriesOnce, Reports};
-ghost use Rattle.pisrakun.specs.Now.{DoesNow};
+ghost use Rattle.store_client.specs.Verbs.{listed_answer, nearest_answer, AskedAs, Reports};
+ghost use Rattle.pisrakun.specs.Now.{DoesNow, report_answer, report_op};
 
 use crate::object_store::ObjectStore;
 use disk_trait::LogDisk;
@@ -14,7 +14,7 @@ use sessions::{CallFault, Start};
 use std::sync::Wait;
 use store_client::{
     Listed, MoveReply, PutReply, Report, at_reply, gone_reply, listed_reply, move_reply,
-    nearest_reply, put_reply, put_report,
+    nearest_reply, put_reply,
 };
 use zorder::{Point, Region};
 
@@ -94,27 +94,6 @@ impl<I: Index, D: LogDisk, O: Start> ObjectStore<I, D, O> {
         Ok(nearest_reply(reply.answer))
     }
 
-    // Tries a report once. It returns `None` if the object was absent for the move and present for the put.
-    fn try_report<R: Wait>(
-        &mut self,
-        rt: &R,
-        id: u64,
-        at: Point,
-        moment: u64,
-    ) -> Result<Option<Report>, CallFault>
-        ensures tries { TriesOnce I.WIDTH id at moment self.old self.new result }
-        ensures store { Keeps self.old self.new }
-    {
-        match self.move_to(rt, id, at, moment) {
-            Ok(MoveReply::From(from)) => return Ok(Some(Report::From(from))),
-            Ok(MoveReply::Stale(kept)) => return Ok(Some(Report::Stale(kept))),
-            Ok(MoveReply::Absent) => {}
-            Err(fault) => return Err(fault),
-        }
-        let told = self.put(rt, id, at, moment);
-        put_report(told)
-    }
-
     /// Says where an object is now: a move, or a put if there is no such object.
     pub fn report<R: Wait>(
         &mut self,
@@ -124,15 +103,21 @@ impl<I: Index, D: LogDisk, O: Start> ObjectStore<I, D, O> {
         moment: u64,
     ) -> Result<Report, CallFault>
         ensures reports { Reports I.WIDTH id at moment self.old self.new result }
+        ensures now { DoesNow report_answer (report_op id at moment (world_seen self.old.pass)) self.old self.new result }
         ensures store { Keeps self.old self.new }
     {
-        for _ in rt.forever() {
-            match self.try_report(rt, id, at, moment) {
-                Ok(Some(told)) => return Ok(told),
-                Ok(None) => {}
-                Err(fault) => return Err(fault),
-            }
+        match self.move_to(rt, id, at, moment) {
+            Ok(MoveReply::From(from)) => return Ok(Report::From(from)),
+            Ok(MoveReply::Stale(kept)) => return Ok(Report::Stale(kept)),
+            Ok(MoveReply::Absent) => {}
+            Err(fault) => return Err(fault),
         }
-        unreachable!()
+        match self.put(rt, id, at, moment) {
+            Ok(PutReply::Done) => Ok(Report::New),
+            Ok(PutReply::Full) => Ok(Report::Full),
+            // The move found no such object, and nobody else calls the store.
+            Ok(PutReply::Present(_)) => unreachable!(),
+            Err(fault) => Err(fault),
+        }
     }
 }

@@ -3,7 +3,7 @@
 //! - lanes in an order that a gate makes, also lanes that a store runs by itself, and sixteen lanes together;
 //! - the index that one lane watches;
 //! - the verbs of a client, its teams and its views;
-//! - the objects of a store;
+//! - the objects of a store, and what a program asks of one;
 //! - the texts of refused calls;
 //! - stores over files, also when they continue over a second file or are refused;
 //! - a store in memory that goes on past the entries that a list takes.
@@ -27,6 +27,8 @@ macro_rules! assert_same {
     };
 }
 
+#[cfg(test)]
+mod asked;
 #[cfg(test)]
 mod batches;
 #[cfg(test)]
