@@ -2,7 +2,7 @@
 use Rattle.std.proofs.Common.{◌≡◌, ◌∙◌, ℕ, false, List, Result, Ok, Err, sym, ap, subst}
 use Rattle.std.specs.Prelude.{IfOk}
 use Rattle.plain_list.specs.World.{IsWorld}
-use Rattle.plain_list.specs.History.{world_after}
+use Rattle.plain_list.specs.History.{world_after, call_count}
 use Rattle.plain_list.specs.State.{ComesBySplits, state_after}
 use Rattle.plain_list.specs.declared.entries.Entry.{Entry}
 use Rattle.index_layer.specs.Leaves.{Leaf, names_of}
@@ -17,6 +17,8 @@ use Rattle.book_lock.specs.declared.origin.Origin.{Origin}
 use Rattle.sessions.specs.Contents.{IsContent, IsContentAnew}
 use Rattle.sessions.specs.Shared.{origin_of, start_of}
 use Rattle.sessions.specs.Steps.{WasTaken, has_given}
+use Rattle.sessions.specs.Views.{IsWorldAt}
+use Rattle.sessions.specs.declared.shared.WorldAt.{WorldAt}
 use Rattle.sessions.proofs.Origins.{start-of-origin}
 
 -- the objects after all that a pass has seen are those of the book that it took
@@ -36,6 +38,11 @@ module _ {D : Type 0} (drive : D → Drive) (w : ℕ) (b : BookView D) (old took
 
   start : b.opening ≡ start_of back.origin
   start = sym (start-of-origin drive w b is.opening) ∙ ap start_of from
+
+  -- the objects that were copied, and the place of the last call, where there was memory
+  pub worlds-at : {E : Type 0} (r : Result WorldAt E) → IfOk r (λ at. at.world ≡ world_after b.opening.world b.entries) → IfOk r (λ at. at.place ≡ call_count b.entries) → IfOk r (λ at. IsWorld at.world) → IfOk r (λ at. IsWorldAt at.world at.place back)
+  worlds-at (Ok at) world place is_world = record { place_is = place ∙ ap call_count entries-seen; world_is = world ∙ worlds; is_world = is_world }
+  worlds-at (Err e) world place is_world = tt
 
   -- the content that was copied, where there was memory
   pub contents : {E : Type 0} (r : Result Content E) → IfOk r (λ c. c.world ≡ world_after b.opening.world b.entries) → IfOk r (λ c. c.leaves ≡ (state_after w b.opening b.entries).leaves)

@@ -10,7 +10,8 @@
 //! | `split_once` | begins a split of a leaf and ends it |
 //! | `run_lanes` | plays the rows of several sessions, each row by one call |
 //! | `settle` | makes the splits that are due at the end |
-//! | `room`, `world`, `view` | return the room that is left, a copy of the objects, or a share of the index |
+//! | `room`, `closed` | return the room that is left, and the record whose append failed |
+//! | `world`, `world_at`, `view` | return a copy of the objects, alone or with its place, or a share of the index |
 //! | `content`, `anew` | copy the objects with the names of the leaves, or with an index with fresh leaves |
 //! | `close` | returns the book, whose history is what the last pass has seen |
 //!
@@ -30,6 +31,6 @@ mod start;
 mod store;
 
 pub use faults::{CallFault, Settled, Split};
-pub use shared::SharedBook;
+pub use shared::{SharedBook, WorldAt};
 pub use start::Start;
 pub use store::{KeptRow, Lane, Store};

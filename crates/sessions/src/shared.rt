@@ -5,7 +5,7 @@ ghost use Rattle.std.specs.Result.{result_err};
 ghost use Rattle.zorder.specs.Key.{IsPoint};
 ghost use Rattle.plain_list.specs.Answer.{FitsOp};
 ghost use Rattle.plain_list.specs.World.{IsWorld};
-ghost use Rattle.plain_list.specs.History.{call_count, world_after};
+ghost use Rattle.plain_list.specs.History.{call_count, failed_cell, world_after};
 ghost use Rattle.plain_list.specs.Size.{full_leaf};
 ghost use Rattle.plain_list.specs.State.{ComesBySplits, state_after};
 ghost use Rattle.index_layer.specs.Leaves.{names_of};
@@ -31,6 +31,13 @@ use split_prepare::{Prepared, SplitTicket};
 use std::alloc::{AllocFailed, Global};
 use std::marker::{Model, PhantomData};
 use zorder::{Memory, Name, Point, Region, coordinates_fit};
+
+/// A copy of all objects, and the place of the last call before it, or 0 if there was none.
+#[derive(Drop)]
+pub struct WorldAt {
+    pub world: World,
+    pub place: u64,
+}
 
 /// A book whose objects are a world. `O` is what is known of the drive over which its log was opened.
 #[derive(Drop)]
@@ -101,6 +108,14 @@ impl<I: Index, D: LogDisk, O: Start> SharedBook<I, D, O> {
         self.book.room()
     }
 
+    /// As the book's call of this name.
+    pub(crate) fn closed(&self) -> Option<u64>
+        ensures closed { result ≡ failed_cell self.now.entries }
+        ensures book { IsBook D.drive I.WIDTH self.now }
+    {
+        self.book.closed()
+    }
+
     /// Copies the objects.
     pub(crate) fn world(&self) -> Result<World, Memory>
         ensures world { IfOk result (λ w. w ≡ world_after self.now.opening.world self.now.entries) }
@@ -108,6 +123,18 @@ impl<I: Index, D: LogDisk, O: Start> SharedBook<I, D, O> {
     {
         let content = self.book.content()?;
         Ok(content.world)
+    }
+
+    /// Copies the objects, and returns the place of the last call too.
+    pub(crate) fn world_at(&self) -> Result<WorldAt, Memory>
+        ensures world { IfOk result (λ at. at.world ≡ world_after self.now.opening.world self.now.entries) }
+        ensures place { IfOk result (λ at. at.place ≡ call_count self.now.entries) }
+        ensures is_world { IfOk result (λ at. IsWorld at.world) }
+        ensures book { IsBook D.drive I.WIDTH self.now }
+    {
+        let place = self.book.calls();
+        let world = self.world()?;
+        Ok(WorldAt { world, place })
     }
 
     /// As the book's call of this name. A closed book returns its fault.

@@ -5,9 +5,10 @@ ghost use Rattle.plain_list.specs.World.{IsWorld};
 ghost use Rattle.commit_book.specs.Refusals.{IsMemory, IsRefusedBy, closed_refusal};
 ghost use Rattle.sessions.specs.Contents.{IsContent, IsContentAnew};
 ghost use Rattle.sessions.specs.Runs.{HasLooked};
+ghost use Rattle.sessions.specs.Views.{IsWorldAt};
 
 use super::Store;
-use crate::shared::SharedBook;
+use crate::shared::{SharedBook, WorldAt};
 use crate::start::Start;
 use book_lock::Pass;
 use commit_book::{Anew, BookFault, Content};
@@ -34,6 +35,23 @@ impl<I: Index, D: LogDisk, O: Start> Store<I, D, O> {
     {
         let book = self.take(rt, pass);
         let world = book.world();
+        self.put_back(pass, book, false);
+        world
+    }
+
+    /// The same, with the place of the last call before the copy. Other callers wait until the copy is done.
+    pub fn world_at<R: Wait>(
+        &self,
+        rt: &R,
+        pass: &mut Pass<SharedBook<I, D, O>>,
+    ) -> Result<WorldAt, Memory>
+        requires lock { pass.old.lock ≡ self.now }
+        requires off { pass.old.holds ≡ false }
+        ensures looked { HasLooked pass.old pass.new }
+        ensures world_at { IfOk result (λ at. IsWorldAt at.world at.place pass.new) }
+    {
+        let book = self.take(rt, pass);
+        let world = book.world_at();
         self.put_back(pass, book, false);
         world
     }

@@ -1,5 +1,6 @@
-//! The room that is left in a store, the leaf to split next, and a view of the objects.
+//! The room that is left in a store, whether it is closed, the leaf to split next, and a view of the objects.
 ghost use Rattle.std.specs.Prelude.{◌≡◌, false, IfOk};
+ghost use Rattle.plain_list.specs.History.{failed_cell};
 ghost use Rattle.sessions.specs.Calls.{next_full};
 ghost use Rattle.sessions.specs.Rooms.{room_at};
 ghost use Rattle.sessions.specs.Runs.{HasLooked};
@@ -27,6 +28,20 @@ impl<I: Index, D: LogDisk, O: Start> Store<I, D, O> {
         let room = book.room();
         self.put_back(pass, book, false);
         room
+    }
+
+    /// The record whose append failed, or `None` if none did, after all that the pass has seen. After a failure the store
+    /// takes no more calls.
+    pub fn closed<R: Wait>(&self, rt: &R, pass: &mut Pass<SharedBook<I, D, O>>) -> Option<u64>
+        requires lock { pass.old.lock ≡ self.now }
+        requires off { pass.old.holds ≡ false }
+        ensures looked { HasLooked pass.old pass.new }
+        ensures closed { result ≡ failed_cell pass.new.seen }
+    {
+        let book = self.take(rt, pass);
+        let closed = book.closed();
+        self.put_back(pass, book, false);
+        closed
     }
 
     /// Returns the leaf to split next after all that the pass has seen, or `None` if no leaf is due.
