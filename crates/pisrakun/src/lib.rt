@@ -6,7 +6,7 @@
 //! | keep them in a file, or in two alternately | `FileStore::open_file`, `FileStore::open_pair` |
 //! | put, move, find, remove and ask | the calls of the store: `put`, `report`, `find`, `within`, `nearest`, .. |
 //! | make many changes in one step | `apply`, with a `Batch` |
-//! | see what it has, and how much more it takes | `len`, `count`, `room`, `status` |
+//! | see what it has, and how much more it takes | `len`, `count`, `room`, `status`, `world_at` |
 //! | let threads share it | `work_all`, and a `Work` for each thread, which calls by a `Client` |
 //! | let threads take clients whenever they like | `pool`, and a `Service` for each thread, which calls by a `Guest` |
 //! | ask several questions of one moment | `view`, which returns a `View` |
@@ -95,6 +95,7 @@ pub use sessions::SharedBook;
 pub use sessions::Split;
 pub use sessions::Start;
 pub use sessions::Store;
+pub use sessions::WorldAt;
 pub use store_client::Batch;
 pub use store_client::Client;
 pub use store_client::Guest;

@@ -8,7 +8,7 @@ ghost use Rattle.sessions.specs.Opens.{places_seen};
 ghost use Rattle.sessions.specs.Rooms.{room_at};
 ghost use Rattle.sessions.specs.Settles.{Settles};
 ghost use Rattle.sessions.specs.Splits.{SamePass};
-ghost use Rattle.sessions.specs.Views.{IsView};
+ghost use Rattle.sessions.specs.Views.{IsView, IsWorldAt};
 ghost use Rattle.store_client.specs.Caller.{is_near_end, world_seen};
 ghost use Rattle.store_file.specs.Objects.{IsLatest};
 ghost use Rattle.pisrakun.specs.Status.{IsStatus, records_of};
@@ -20,7 +20,7 @@ use index_layer::Index;
 use index_view::View;
 use io_edge::OpenGate;
 use plain_list::World;
-use sessions::{Settled, Start};
+use sessions::{Settled, Start, WorldAt};
 use std::sync::Wait;
 use store_client::{MOST_CELLS, has_no_room};
 use store_file::latest_of;
@@ -65,6 +65,14 @@ impl<I: Index, D: LogDisk, O: Start> ObjectStore<I, D, O> {
         ensures is_world { IfOk result (λ w. IsWorld w) }
     {
         self.store.world(rt, &mut self.pass)
+    }
+
+    /// Copies the objects, and returns the place of the last call too, or 0 if there was none.
+    pub fn world_at<R: Wait>(&mut self, rt: &R) -> Result<WorldAt, Memory>
+        ensures same { self.new ≡ self.old }
+        ensures world_at { IfOk result (λ at. IsWorldAt at.world at.place self.old.pass) }
+    {
+        self.store.world_at(rt, &mut self.pass)
     }
 
     /// Returns a view of the objects as they are now. You may keep the view for as long as you like, also after the

@@ -6,7 +6,7 @@ ghost use Rattle.sessions.specs.Lanes.{Tries};
 ghost use Rattle.sessions.specs.Rooms.{room_at};
 ghost use Rattle.sessions.specs.Runs.{HasLooked};
 ghost use Rattle.sessions.specs.Splits.{SamePass};
-ghost use Rattle.sessions.specs.Views.{IsView};
+ghost use Rattle.sessions.specs.Views.{IsView, IsWorldAt};
 ghost use Rattle.store_client.specs.Caller.{IsFree, Keeps, is_near_end, world_seen};
 ghost use Rattle.store_client.specs.Asked.{Asked, AskedCounted};
 
@@ -18,7 +18,7 @@ use index_layer::Index;
 use index_view::View;
 use io_edge::OpenGate;
 use plain_list::{Answer, Op, World};
-use sessions::{CallFault, SharedBook, Split, Start, Store};
+use sessions::{CallFault, SharedBook, Split, Start, Store, WorldAt};
 use std::alloc::Global;
 use std::marker::{Brand, Model};
 use std::sync::Wait;
@@ -166,6 +166,17 @@ impl<'s, I: Index, D: LogDisk, O: Start> Client<'s, I, D, O> {
     {
         let store = self.store;
         store.world(rt, &mut self.pass)
+    }
+
+    /// As `world`, with the place of the copy: the changes up to that place are in it, and no later ones. So a tally over the
+    /// copy continues with the changes after that place.
+    pub fn world_at<R: Wait>(&mut self, rt: &R) -> Result<WorldAt, Memory>
+        ensures looked { HasLooked self.old.pass self.new.pass }
+        ensures world_at { IfOk result (λ at. IsWorldAt at.world at.place self.new.pass) }
+        ensures client { self.new ≡ record self.old { pass = self.new.pass } }
+    {
+        let store = self.store;
+        store.world_at(rt, &mut self.pass)
     }
 
     /// Returns a view: the objects after all that the client has seen. You may keep the view for as long as you like. Its queries take no

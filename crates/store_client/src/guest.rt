@@ -5,7 +5,7 @@ ghost use Rattle.plain_list.specs.Answer.{IsValid};
 ghost use Rattle.plain_list.specs.World.{IsWorld};
 ghost use Rattle.sessions.specs.Rooms.{room_at};
 ghost use Rattle.sessions.specs.Runs.{HasLooked};
-ghost use Rattle.sessions.specs.Views.{IsView};
+ghost use Rattle.sessions.specs.Views.{IsView, IsWorldAt};
 ghost use Rattle.store_client.specs.Asked.{Asked};
 ghost use Rattle.store_client.specs.Batches.{Applies};
 ghost use Rattle.store_client.specs.Caller.{is_near_end, world_seen};
@@ -21,7 +21,7 @@ use disk_trait::LogDisk;
 use index_layer::Index;
 use index_view::View;
 use plain_list::{Op, PlacedList, Stamped, World};
-use sessions::{CallFault, Start};
+use sessions::{CallFault, Start, WorldAt};
 use std::marker::Model;
 use std::sync::atomic::{AtomicU64, Ordering};
 use std::sync::{MutexGuard, Wait};
@@ -171,6 +171,15 @@ impl<'p, 's, I: Index, D: LogDisk, O: Start, L: Lender> Guest<'p, 's, I, D, O, L
         ensures client { self.new ≡ record self.old { pass = self.new.pass } }
     {
         self.desk.client.world(rt)
+    }
+
+    /// As `Client::world_at`.
+    pub fn world_at<R: Wait>(&mut self, rt: &R) -> Result<WorldAt, Memory>
+        ensures looked { HasLooked self.old.pass self.new.pass }
+        ensures world_at { IfOk result (λ at. IsWorldAt at.world at.place self.new.pass) }
+        ensures client { self.new ≡ record self.old { pass = self.new.pass } }
+    {
+        self.desk.client.world_at(rt)
     }
 
     /// As `Client::view`.

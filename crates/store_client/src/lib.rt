@@ -8,7 +8,7 @@
 //! | `put`, `move_to`, `remove`, `find`, `within`, `nearest` | the same call, each with just its own answers |
 //! | `report` | a move, or a put if there is no such object |
 //! | `apply` | all operations of a `Batch` as one step (`Applies`) |
-//! | `world`, `view` | a copy of all objects, or a view without a copy |
+//! | `world`, `world_at`, `view` | a copy of all objects, also with its place, or a view without a copy |
 //! | `another`, `join`, `learn` | share the store with other callers |
 //! | `work_all` | lets a team work at once, each in its own thread (`TeamDid`) |
 //! | `host` | lets a crew work at once, by clients that it takes from a `Pool` and gives back (`HasHosted`) |

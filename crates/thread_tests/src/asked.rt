@@ -1,6 +1,10 @@
-//! What a program asks of a store: reports one after another, and where an object is and since when.
+//! What a program asks of a store: reports one after another, where an object is and since when, and a copy with its
+//! place.
+use disk_trait::LogDisk;
 use flat_index::FlatIndex;
-use pisrakun::{Index, MemoryStore, Point, Report, Stamped};
+use pisrakun::{
+    Client, Errand, Index, Memory, MemoryStore, Point, Report, Stamped, Start, WorldAt,
+};
 use std::alloc::Global;
 use std::process::Abort;
 use std::sync::Wait;
@@ -69,4 +73,54 @@ fn reports_in_memory<I: Index, R: Wait + Abort>(rt: &R, alloc: Global) -> Report
 fn a_store_answers_reports_and_tells_since_when_an_object_is_there(rt: HostRuntime) {
     let told = reports_in_memory::<FlatIndex, _>(&rt, rt.alloc());
     assert_same!(rt; told, REPORTED);
+}
+
+// The place of a copy, and the ids of its objects.
+fn content_of(copied: Result<WorldAt, Memory>) -> Option<(u64, [Option<u64>; 3])> {
+    let copied = copied.ok()?;
+    let mut ids = copied.world.as_slice().iter().map(|member| member.id);
+    Some((copied.place, [ids.next(), ids.next(), ids.next()]))
+}
+
+// A client that puts an object, and copies all of them.
+#[derive(Drop)]
+struct Copier;
+
+impl<R: Wait> Errand<R> for Copier {
+    type Answer = Option<(u64, [Option<u64>; 3])>;
+
+    fn run<I: Index, D: LogDisk, O: Start>(
+        self,
+        rt: &R,
+        client: &mut Client<'_, I, D, O>,
+    ) -> Option<(u64, [Option<u64>; 3])> {
+        let _ = client.put(rt, 2, THERE, 0);
+        content_of(client.world_at(rt))
+    }
+}
+
+// A copy before the first call, one after two calls, and one of a client after one more.
+fn copies<I: Index, R: Wait + Abort>(
+    rt: &R,
+    alloc: Global,
+) -> [Option<(u64, [Option<u64>; 3])>; 3] {
+    let mut store = memory_store::<I>(rt, alloc);
+    let none = content_of(store.world_at(rt));
+    let _ = store.put(rt, 7, HERE, 0);
+    let _ = store.find(rt, 7);
+    let one = content_of(store.world_at(rt));
+    let two = store.lend(rt, Copier);
+    store.close();
+    [none, one, two]
+}
+
+#[test]
+fn a_copy_tells_its_place(rt: HostRuntime) {
+    let told = copies::<FlatIndex, _>(&rt, rt.alloc());
+    let wanted = [
+        Some((0, [None, None, None])),
+        Some((2, [Some(7), None, None])),
+        Some((3, [Some(2), Some(7), None])),
+    ];
+    assert_same!(rt; told, wanted);
 }
