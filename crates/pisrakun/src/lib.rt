@@ -7,6 +7,7 @@
 //! | put, move, find, remove and ask | the calls of the store: `put`, `report`, `find`, `within`, `nearest`, .. |
 //! | make many changes in one step | `apply`, with a `Batch` |
 //! | see what it has, and how much more it takes | `len`, `count`, `room`, `status`, `world_at` |
+//! | learn whether it takes more calls | `closed` |
 //! | let threads share it | `work_all`, and a `Work` for each thread, which calls by a `Client` |
 //! | let threads take clients whenever they like | `pool`, and a `Service` for each thread, which calls by a `Guest` |
 //! | ask several questions of one moment | `view`, which returns a `View` |

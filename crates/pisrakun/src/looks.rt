@@ -2,6 +2,7 @@
 ghost use Rattle.std.specs.Prelude.{◌≡◌, ℕ, Bool, IfOk, length, Option};
 ghost use Rattle.commit_book.specs.RoomLeft.{room_beside};
 ghost use Rattle.zorder.specs.Region.{IsBox};
+ghost use Rattle.plain_list.specs.History.{failed_cell};
 ghost use Rattle.plain_list.specs.Queries.{members_in};
 ghost use Rattle.plain_list.specs.World.{IsWorld};
 ghost use Rattle.sessions.specs.Opens.{places_seen};
@@ -46,6 +47,15 @@ impl<I: Index, D: LogDisk, O: Start> ObjectStore<I, D, O> {
         ensures room { result ≡ room_at self.old.pass.origin self.old.pass.seen }
     {
         self.store.room(rt, &mut self.pass)
+    }
+
+    /// The record whose append failed, or `None` if none did. After a failure the store takes no more calls: close it, and
+    /// open its file again. A call returns `Ok` if only the append of its split failed, so ask this to learn of it.
+    pub fn closed<R: Wait>(&mut self, rt: &R) -> Option<u64>
+        ensures same { self.new ≡ self.old }
+        ensures closed { result ≡ failed_cell self.old.pass.seen }
+    {
+        self.store.closed(rt, &mut self.pass)
     }
 
     /// Whether leaves are no longer split, since the log has so many records. Then it is time to rotate the store. Of a

@@ -1,6 +1,7 @@
 //! A caller of a store, and its calls.
 ghost use Rattle.std.specs.Prelude.{◌≡◌, false, IfOk};
 ghost use Rattle.plain_list.specs.Answer.{IsValid};
+ghost use Rattle.plain_list.specs.History.{failed_cell};
 ghost use Rattle.plain_list.specs.World.{IsWorld};
 ghost use Rattle.sessions.specs.Lanes.{Tries};
 ghost use Rattle.sessions.specs.Rooms.{room_at};
@@ -142,6 +143,17 @@ impl<'s, I: Index, D: LogDisk, O: Start> Client<'s, I, D, O> {
     {
         let store = self.store;
         store.room(rt, &mut self.pass)
+    }
+
+    /// The record whose append failed, or `None` if none did, after all that the client has seen. After a failure the store
+    /// takes no more calls. So after a call that was answered, this says whether the append of its split failed.
+    pub fn closed<R: Wait>(&mut self, rt: &R) -> Option<u64>
+        ensures looked { HasLooked self.old.pass self.new.pass }
+        ensures closed { result ≡ failed_cell self.new.pass.seen }
+        ensures client { self.new ≡ record self.old { pass = self.new.pass } }
+    {
+        let store = self.store;
+        store.closed(rt, &mut self.pass)
     }
 
     /// Whether there are too many log records for a further split. Then it is time to rotate the store. It is also true

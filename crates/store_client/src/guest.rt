@@ -2,6 +2,7 @@
 ghost use Rattle.std.specs.Prelude.{◌≡◌, ◌≤◌, IfOk};
 ghost use Rattle.zorder.specs.Region.{IsBox};
 ghost use Rattle.plain_list.specs.Answer.{IsValid};
+ghost use Rattle.plain_list.specs.History.{failed_cell};
 ghost use Rattle.plain_list.specs.World.{IsWorld};
 ghost use Rattle.sessions.specs.Rooms.{room_at};
 ghost use Rattle.sessions.specs.Runs.{HasLooked};
@@ -152,6 +153,15 @@ impl<'p, 's, I: Index, D: LogDisk, O: Start, L: Lender> Guest<'p, 's, I, D, O, L
         ensures client { self.new ≡ record self.old { pass = self.new.pass } }
     {
         self.desk.client.room(rt)
+    }
+
+    /// As `Client::closed`.
+    pub fn closed<R: Wait>(&mut self, rt: &R) -> Option<u64>
+        ensures looked { HasLooked self.old.pass self.new.pass }
+        ensures closed { result ≡ failed_cell self.new.pass.seen }
+        ensures client { self.new ≡ record self.old { pass = self.new.pass } }
+    {
+        self.desk.client.closed(rt)
     }
 
     /// As `Client::is_near_end`.

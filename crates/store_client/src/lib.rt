@@ -9,6 +9,7 @@
 //! | `report` | a move, or a put if there is no such object |
 //! | `apply` | all operations of a `Batch` as one step (`Applies`) |
 //! | `world`, `world_at`, `view` | a copy of all objects, also with its place, or a view without a copy |
+//! | `closed` | the record whose append failed, if one did |
 //! | `another`, `join`, `learn` | share the store with other callers |
 //! | `work_all` | lets a team work at once, each in its own thread (`TeamDid`) |
 //! | `host` | lets a crew work at once, by clients that it takes from a `Pool` and gives back (`HasHosted`) |

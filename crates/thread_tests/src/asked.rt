@@ -1,9 +1,12 @@
-//! What a program asks of a store: reports one after another, where an object is and since when, and a copy with its
-//! place.
+//! What a program asks of a store: reports one after another, where an object is and since when, a copy with its place,
+//! and whether the store is closed.
+use crate::logs::{END, HEADER, PUT_4, disk_with, failing_disk};
+use disk_mem::{DiskCall, Fail, MemDisk};
 use disk_trait::LogDisk;
 use flat_index::FlatIndex;
 use pisrakun::{
-    Client, Errand, Index, Memory, MemoryStore, Point, Report, Stamped, Start, WorldAt,
+    CallFault, Client, ClosedStore, Errand, FileStore, Index, Memory, MemoryStore, Point, PutReply,
+    Report, Stamped, Start, WorldAt,
 };
 use std::alloc::Global;
 use std::process::Abort;
@@ -123,4 +126,73 @@ fn a_copy_tells_its_place(rt: HostRuntime) {
         Some((3, [Some(2), Some(7), None])),
     ];
     assert_same!(rt; told, wanted);
+}
+
+// A client that asks whether its store is closed.
+#[derive(Drop)]
+struct Asker;
+
+impl<R: Wait> Errand<R> for Asker {
+    type Answer = Option<u64>;
+
+    fn run<I: Index, D: LogDisk, O: Start>(
+        self,
+        rt: &R,
+        client: &mut Client<'_, I, D, O>,
+    ) -> Option<u64> {
+        client.closed(rt)
+    }
+}
+
+// The answer to a put behind which a leaf is split, that to the next put, and which record was lost: before both, between
+// them by the store and by a client, and at the close.
+type Closing = (
+    Result<PutReply, CallFault>,
+    Result<PutReply, CallFault>,
+    [Option<u64>; 4],
+);
+
+fn splits<I: Index, D: LogDisk, R: Wait + Abort>(rt: &R, alloc: Global, disk: D) -> Closing {
+    let Ok((mut store, _)) = FileStore::<I, D>::open_file(alloc, disk, "a.log", 4) else {
+        rt.panic("no store is opened")
+    };
+    for id in 1..4 {
+        let _ = store.put(rt, id, HERE, 0);
+    }
+    let before = store.closed(rt);
+    let fifth = store.put(rt, 5, THERE, 0);
+    let (between, by_client) = (store.closed(rt), store.lend(rt, Asker));
+    let sixth = store.put(rt, 6, THERE, 0);
+    let ClosedStore { lost, disk: _ } = store.close();
+    (fifth, sixth, [before, between, by_client, lost])
+}
+
+// The log has one object, and a leaf should have four. An append writes twice, so the ninth write is the first one of the
+// split that comes after the fifth object.
+const SPLIT: &[Fail] = &[Fail {
+    call: DiskCall::Write,
+    number: 9,
+}];
+
+#[test]
+fn a_put_whose_split_is_lost_is_answered_and_the_store_tells_that_it_is_closed(rt: HostRuntime) {
+    let alloc = rt.alloc();
+    let disk = failing_disk(&rt, alloc, &[HEADER, PUT_4, END], SPLIT);
+    let told = splits::<FlatIndex, MemDisk, _>(&rt, alloc, disk);
+    let lost = Some(5);
+    let wanted = (
+        Ok(PutReply::Done),
+        Err(CallFault::Closed { cell: 5 }),
+        [None, lost, lost, lost],
+    );
+    assert_same!(rt; told, wanted);
+}
+
+#[test]
+fn a_store_whose_splits_are_done_is_open(rt: HostRuntime) {
+    let alloc = rt.alloc();
+    let disk = disk_with(&rt, alloc, &[HEADER, PUT_4, END]);
+    let told = splits::<FlatIndex, MemDisk, _>(&rt, alloc, disk);
+    let done = Ok(PutReply::Done);
+    assert_same!(rt; told, (done, done, [None; 4]));
 }
