@@ -76,7 +76,7 @@ impl<R: Wait> Work<R> for Driver {
             };
             let is_good = self.day.is_good(self.number, row, told);
             self.good = self.good.saturating_add(u32::from(is_good));
-            if let Some(change) = told.change(client.place(), van, now.at)
+            if let Some(change) = client.last_change()
                 && self.yard.changed(&change).is_err()
             {
                 return;

@@ -22,7 +22,7 @@ IsFirstIfKept (apart.Memory book spare) = ⊤
 
 -- The same, with the store and its pass as one value that calls with this label.
 abbrev pub IsAsOne : {I D P T : Type 0} → Label → NotRotated I D P → NotRotatedStore I D T → Type 0
-IsAsOne label (apart.Kept store pass spare cause) e = e ≡ Kept (record { pass = pass; session = label.session; row = label.row; place = label.place }) spare cause
+IsAsOne label (apart.Kept store pass spare cause) e = e ≡ Kept (record { pass = pass; session = label.session; row = label.row; place = label.place; change = label.change }) spare cause
 IsAsOne label (apart.Unsure disk spare) e = e ≡ Unsure disk spare
 IsAsOne label (apart.Uncleared book old) e = e ≡ Uncleared book old
 IsAsOne label (apart.Memory book spare) e = e ≡ Memory book spare

@@ -1,6 +1,7 @@
-//! The session, the row and the place that a caller keeps.
+//! The session, the row, the place and the change that a caller keeps.
+use plain_list::Change;
 
-/// What marks the next call of a session, and the place of its last one that was answered.
+/// What marks the next call of a session, and the place and the change of its last one that was answered.
 #[derive(Clone, Copy)]
 pub struct Label {
     pub session: u8,
@@ -8,4 +9,6 @@ pub struct Label {
     pub row: u32,
     /// The place of the last call that was answered, and 0 if there is none.
     pub place: u64,
+    /// What that call has changed, if anything.
+    pub change: Option<Change>,
 }

@@ -12,7 +12,7 @@
 //! | let threads take clients whenever they like | `pool`, and a `Service` for each thread, which calls by a `Guest` |
 //! | ask several questions of one moment | `view`, which returns a `View` |
 //! | continue before its log is full | `rotate` |
-//! | watch fences | `Fences`, `Tally`, `Change` |
+//! | watch fences | `Fences`, `Tally`, and `last_change` after each call |
 //!
 //! Both are an `ObjectStore`: a store with the right to call and to end it, in one value. Contracts see it as a caller
 //! that has all parts of the store. So the answer of each call is exactly that of a plain list of the objects as they

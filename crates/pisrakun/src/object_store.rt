@@ -1,5 +1,5 @@
 //! A store as one value, and its calls.
-ghost use Rattle.std.specs.Prelude.{◌≡◌};
+ghost use Rattle.std.specs.Prelude.{◌≡◌, None};
 ghost use Rattle.plain_list.specs.Answer.{IsValid};
 ghost use Rattle.store_client.specs.Asked.{Asked, AskedCounted};
 ghost use Rattle.store_client.specs.Caller.{Keeps};
@@ -12,7 +12,7 @@ use book_lock::Pass;
 use disk_trait::LogDisk;
 use index_layer::Index;
 use io_edge::OpenGate;
-use plain_list::Op;
+use plain_list::{Change, Op};
 use sessions::{CallFault, SharedBook, Start, Store};
 use std::alloc::Global;
 use std::marker::{Brand, Model};
@@ -33,6 +33,7 @@ pub struct ObjectStore<I: Index, D: LogDisk, O: Start> {
     pub(crate) session: u8,
     pub(crate) row: u32,
     pub(crate) place: u64,
+    pub(crate) change: Option<Change>,
 }
 
 impl<I: Index, D: LogDisk, O: Start> Model for ObjectStore<I, D, O> {
@@ -41,7 +42,7 @@ impl<I: Index, D: LogDisk, O: Start> Model for ObjectStore<I, D, O> {
 
     ghost Value = { Caller };
 
-    ghost view = { λ s. record { pass = s.pass; session = s.session; row = s.row; place = s.place } };
+    ghost view = { λ s. record { pass = s.pass; session = s.session; row = s.row; place = s.place; change = s.change } };
 
     ghost invariant = { λ s. IsFirst s.store s.pass };
 }
@@ -54,7 +55,7 @@ impl<I: Index, D: LogDisk, O: Start> ObjectStore<I, D, O> {
         pass: Pass<SharedBook<I, D, O>>,
     ) -> ObjectStore<I, D, O>
         requires { IsFirst store pass }
-        ensures { result ≡ record { pass = pass; session = 0; row = 0; place = 0 } }
+        ensures { result ≡ record { pass = pass; session = 0; row = 0; place = 0; change = None } }
     {
         ObjectStore {
             store,
@@ -63,6 +64,7 @@ impl<I: Index, D: LogDisk, O: Start> ObjectStore<I, D, O> {
             session: 0,
             row: 0,
             place: 0,
+            change: None,
         }
     }
 
@@ -78,6 +80,7 @@ impl<I: Index, D: LogDisk, O: Start> ObjectStore<I, D, O> {
             session: _,
             row: _,
             place: _,
+            change: _,
         } = self;
         (store, pass)
     }
@@ -88,6 +91,14 @@ impl<I: Index, D: LogDisk, O: Start> ObjectStore<I, D, O> {
         ensures { result ≡ self.now.place }
     {
         self.place
+    }
+
+    /// What the last call that was answered has changed, with its place: `None` if it was a query, or if its answer says that
+    /// nothing changed. After a batch it is `None` too.
+    pub fn last_change(&self) -> Option<Change>
+        ensures { result ≡ self.now.change }
+    {
+        self.change
     }
 
     /// Makes the next calls in this session.
@@ -105,6 +116,7 @@ impl<I: Index, D: LogDisk, O: Start> ObjectStore<I, D, O> {
             session: self.session,
             row: self.row,
             place: self.place,
+            change: self.change,
         }
     }
 
@@ -117,6 +129,7 @@ impl<I: Index, D: LogDisk, O: Start> ObjectStore<I, D, O> {
         self.session = label.session;
         self.row = label.row;
         self.place = label.place;
+        self.change = label.change;
         before
     }
 
@@ -141,6 +154,7 @@ impl<I: Index, D: LogDisk, O: Start> ObjectStore<I, D, O> {
         };
         let split = try_split(rt, alloc, store, pass, session, done.full);
         self.place = done.place;
+        self.change = Change::of(done.place, op, &done.answer);
         Ok(Reply {
             place: done.place,
             answer: done.answer,

@@ -1,5 +1,5 @@
 //! A second session at a store, in the same thread.
-ghost use Rattle.std.specs.Prelude.{◌≡◌, ◌≤◌};
+ghost use Rattle.std.specs.Prelude.{◌≡◌, ◌≤◌, None};
 ghost use Rattle.zorder.specs.Region.{IsBox};
 ghost use Rattle.plain_list.specs.Answer.{IsValid};
 ghost use Rattle.store_client.specs.Asked.{Asked};
@@ -13,7 +13,7 @@ use crate::label::Label;
 use crate::object_store::ObjectStore;
 use disk_trait::LogDisk;
 use index_layer::Index;
-use plain_list::{Op, PlacedList, Stamped};
+use plain_list::{Change, Op, PlacedList, Stamped};
 use sessions::{CallFault, Start};
 use std::sync::Wait;
 use store_client::{Listed, MoveReply, PutReply, Reply, Report};
@@ -31,7 +31,7 @@ impl<I: Index, D: LogDisk, O: Start> ObjectStore<I, D, O> {
     pub fn session(&mut self, session: u8) -> Session<'_, I, D, O>
         ensures same { result.store.ghost_name ≡ self.entry.ghost_name }
         ensures store { result.store.now ≡ self.old }
-        ensures label { result.label ≡ record { session = session; row = 0; place = 0 } }
+        ensures label { result.label ≡ record { session = session; row = 0; place = 0; change = None } }
     {
         Session {
             store: self,
@@ -39,6 +39,7 @@ impl<I: Index, D: LogDisk, O: Start> ObjectStore<I, D, O> {
                 session,
                 row: 0,
                 place: 0,
+                change: None,
             },
         }
     }
@@ -50,6 +51,13 @@ impl<'w, I: Index, D: LogDisk, O: Start> Session<'w, I, D, O> {
         ensures { result ≡ self.now.label.place }
     {
         self.label.place
+    }
+
+    /// What that call has changed, as `ObjectStore::last_change`.
+    pub fn last_change(&self) -> Option<Change>
+        ensures { result ≡ self.now.label.change }
+    {
+        self.label.change
     }
 
     /// Answers a call, as `ObjectStore::ask`.

@@ -2,6 +2,7 @@
 use Rattle.std.proofs.Common.{◌≡◌, ℕ, Option, None, Ok, Err, refl, sym, subst}
 use Rattle.plain_list.specs.declared.ops.Op.{Op}
 use Rattle.plain_list.specs.declared.ops.Answer.{Answer}
+use Rattle.plain_list.specs.Changes.{change_of}
 use Rattle.commit_book.specs.declared.book.Done.{Done}
 use Rattle.book_lock.specs.Pass.{Known}
 use Rattle.sessions.specs.declared.faults.CallFault.{CallFault}
@@ -18,7 +19,7 @@ use Rattle.store_client.specs.declared.client.Reply.{Reply}
 
 module _ (w : ℕ) (op : Op) (old : Caller) (before now : ℕ) where
   pub refuses : (new : Known) (fault : CallFault) → Called w old.session old.row op old.pass new (Err fault) → SamePass old.pass new → Opens op (leaves_seen w new) (places_seen new) None before now → OpensRefused fault before now
-      → AskedCounted w op old (has_asked old new old.place) before now (Err fault)
+      → AskedCounted w op old (has_asked old new old.place old.change) before now (Err fault)
   refuses new fault called same opened refused = record {
     asked = record { mid = new; told = Err fault; called = called; follows = (refl, refl); client = refl; same = same };
     opened = opened;
@@ -26,7 +27,7 @@ module _ (w : ℕ) (op : Op) (old : Caller) (before now : ℕ) where
   }
 
   pub answers : (mid new : Known) (done : Done) (split : Option Split) → Called w old.session old.row op old.pass mid (Ok done) → SamePass old.pass mid → Tries w done.full mid new split → SamePass mid new
-      → Opens op (leaves_seen w mid) (places_seen mid) (listed_in done.answer) before now → AskedCounted w op old (has_asked old new done.place) before now (Ok (record { place = done.place; answer = done.answer; split = split }))
+      → Opens op (leaves_seen w mid) (places_seen mid) (listed_in done.answer) before now → AskedCounted w op old (has_asked old new done.place (change_of done.place op done.answer)) before now (Ok (record { place = done.place; answer = done.answer; split = split }))
   answers mid new done split called same tries later opened = record {
     asked = record { mid = mid; told = Ok done; called = called; follows = (refl, refl, tries); client = refl; same = same-later old.pass mid new same later };
     opened = opened;

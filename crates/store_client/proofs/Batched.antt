@@ -1,5 +1,5 @@
 -- What a batch of a client leaves, from what the store says of the batch and of the split after it.
-use Rattle.std.proofs.Common.{◌≡◌, ◌≤◌, ℕ, List, length, Option, Ok, Err, refl, ap, subst, ◌∙◌}
+use Rattle.std.proofs.Common.{◌≡◌, ◌≤◌, ℕ, List, length, Option, None, Ok, Err, refl, ap, subst, ◌∙◌}
 use Rattle.plain_list.specs.declared.ops.Op.{Op}
 use Rattle.commit_book.specs.declared.book.batches.BatchDone.{BatchDone}
 use Rattle.book_lock.specs.Pass.{Known}
@@ -21,24 +21,24 @@ module _ (w : ℕ) (batch : List Op) (old : Caller) (ops : List Op) (row next : 
   after-is : next ≡ row_after old.row (length batch)
   after-is = next_is ∙ ap (λ (l : List Op). row_after old.row (length l)) ops_are
 
-  pub batch-refused : (new : Known) (fault : CallFault) → Applied w old.session row ops old.pass new (Err fault) → SamePass old.pass new → Applies w batch old (record { pass = new; session = old.session; row = next; place = old.place }) (Err fault)
+  pub batch-refused : (new : Known) (fault : CallFault) → Applied w old.session row ops old.pass new (Err fault) → SamePass old.pass new → Applies w batch old (record { pass = new; session = old.session; row = next; place = old.place; change = old.change }) (Err fault)
   batch-refused new fault applied same = record {
     mid = new;
     told = Err fault;
     applied = subst (λ (z : ℕ × List Op). Applied w old.session z.0 z.1 old.pass new (Err fault)) (λ i. (first-is i, ops_are i)) applied;
     follows = (refl, refl);
-    client = λ i. record { pass = new; session = old.session; row = after-is i; place = old.place };
+    client = λ i. record { pass = new; session = old.session; row = after-is i; place = old.place; change = old.change };
     same = same;
   }
 
   pub batch-done : (mid tried new : Known) (done : BatchDone) (split : Option Split) (more : ℕ) → Applied w old.session row ops old.pass mid (Ok done) → SamePass old.pass mid → Tries w done.full mid tried split → SamePass mid tried
       → more ≤ more_splits (length ops) → TriesSome w more tried new → SamePass tried new
-      → Applies w batch old (record { pass = new; session = old.session; row = next; place = done.place }) (Ok (record { place = done.place; answers = done.answers; split = split }))
+      → Applies w batch old (record { pass = new; session = old.session; row = next; place = done.place; change = None }) (Ok (record { place = done.place; answers = done.answers; split = split }))
   batch-done mid tried new done split more applied same tries later few some last = record {
     mid = mid;
     told = Ok done;
     applied = subst (λ (z : ℕ × List Op). Applied w old.session z.0 z.1 old.pass mid (Ok done)) (λ i. (first-is i, ops_are i)) applied;
     follows = (refl, refl, tried, tries, some-fewer w more (more_splits (length batch)) tried new (subst (λ (l : List Op). more ≤ more_splits (length l)) ops_are few) some);
-    client = λ i. record { pass = new; session = old.session; row = after-is i; place = done.place };
+    client = λ i. record { pass = new; session = old.session; row = after-is i; place = done.place; change = None };
     same = same-later old.pass mid new same (same-later mid tried new later last);
   }

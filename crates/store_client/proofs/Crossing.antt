@@ -21,7 +21,7 @@ pub client_send : (κ : NamedLft) (I D O P : RattleType) (g : Ghosts I.Denot P.D
 client_send κ I D O P g h k i d o =
     view_send (inside.the_row κ I D O P g h k) _ _ _ _ (recorded_send (inside.the_field κ I D O P g h k).row _ _ (inside.the_type κ I D O P g h k).to_one
     (struct_send (shape (inside.the_type κ I D O P g h k))
-    (shr_send _ _ _ (store_sync I D O P g h k i d o), (pass_send I D O P g h k i d o, (search (sendable, crosses) depth 20, (plain_send _ _ _ _ _, (plain_send _ _ _ _ _, (plain_send _ _ _ _ _, tt))))))))
+    (shr_send _ _ _ (store_sync I D O P g h k i d o), (pass_send I D O P g h k i d o, (search (sendable, crosses) depth 20, (plain_send _ _ _ _ _, (plain_send _ _ _ _ _, (plain_send _ _ _ _ _, (search (sendable, crosses) depth 30, tt)))))))))
 
 pub worker_send : (κ : NamedLft) (I D O W P : RattleType) (g : Ghosts I.Denot P.Denot) (h : DriveGhosts D.Denot) (k : StartGhosts O.Denot) → IsSend I → IsSend D → IsSend O → IsSend W → IsSend (Worker.the_row κ I D O W P g h k)
 worker_send κ I D O W P g h k i d o w =

@@ -1,6 +1,8 @@
 -- What a client promises of a call.
-use Rattle.std.specs.Prelude.{◌≡◌, ℕ, Result, Ok, Err, IfErr}
+use Rattle.std.specs.Prelude.{◌≡◌, ℕ, Option, Result, Ok, Err, IfErr}
 use Rattle.plain_list.specs.declared.ops.Op.{Op}
+use Rattle.plain_list.specs.declared.object_changes.Change.{Change}
+use Rattle.plain_list.specs.Changes.{change_of}
 use Rattle.commit_book.specs.declared.book.Done.{Done}
 use Rattle.book_lock.specs.Pass.{Known}
 use Rattle.sessions.specs.declared.faults.CallFault.{CallFault}
@@ -23,6 +25,11 @@ abbrev pub last_place : ℕ → Result Reply CallFault → ℕ
 last_place before (Ok reply) = reply.place
 last_place before (Err fault) = before
 
+-- What the last call that was answered has changed. It is what this call has changed, if this call was answered.
+abbrev pub last_change : Op → Option Change → Result Reply CallFault → Option Change
+last_change op before (Ok reply) = change_of reply.place op reply.answer
+last_change op before (Err fault) = before
+
 -- What a client promises of a call: what the store returned, the pass after that, and the split after it. Nothing else
 -- changed.
 pub record Asked (w : ℕ) (op : Op) (old new : Caller) (result : Result Reply CallFault) : Type 0 where
@@ -30,7 +37,7 @@ pub record Asked (w : ℕ) (op : Op) (old new : Caller) (result : Result Reply C
   pub told : Result Done CallFault
   pub called : Called w old.session old.row op old.pass mid told
   pub follows : Follows w mid new.pass told result
-  pub client : new ≡ has_asked old new.pass (last_place old.place result)
+  pub client : new ≡ has_asked old new.pass (last_place old.place result) (last_change op old.change result)
   pub same : SamePass old.pass new.pass
 
 -- The same, and how often a bucket was opened for the call.

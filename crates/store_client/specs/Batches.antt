@@ -1,7 +1,8 @@
 -- Batches of operations, and what a client promises of one.
-use Rattle.std.specs.Prelude.{◌≡◌, ℕ, ◌+◌, ◌-◌, ◌/◌, ◌^◌, ◌<◌, ◌≤◌, min, Bool, List, [], ◌∷◌, ◌++◌, length, Some, Result, Ok, Err}
+use Rattle.std.specs.Prelude.{◌≡◌, ℕ, ◌+◌, ◌-◌, ◌/◌, ◌^◌, ◌<◌, ◌≤◌, min, Bool, List, [], ◌∷◌, ◌++◌, length, Option, Some, None, Result, Ok, Err}
 use Rattle.std.specs.List.{AllByRecursion}
 use Rattle.plain_list.specs.declared.ops.Op.{Op}
+use Rattle.plain_list.specs.declared.object_changes.Change.{Change}
 use Rattle.commit_book.specs.Answers.{IsUpdate}
 use Rattle.commit_book.specs.declared.book.batches.BatchDone.{BatchDone}
 use Rattle.book_lock.specs.Pass.{Known}
@@ -71,9 +72,14 @@ abbrev pub place_after : ℕ → Result Replies CallFault → ℕ
 place_after before (Ok replies) = replies.place
 place_after before (Err fault) = before
 
+-- What the client's last call has changed: of a batch that was executed, nothing is kept.
+abbrev pub change_after : Option Change → Result Replies CallFault → Option Change
+change_after before (Ok replies) = None
+change_after before (Err fault) = before
+
 -- A client that has asked for a batch of so many operations.
-abbrev pub has_applied : Caller → ℕ → Known → ℕ → Caller
-has_applied old count pass place = record { pass = pass; session = old.session; row = row_after old.row count; place = place }
+abbrev pub has_applied : Caller → ℕ → Known → ℕ → Option Change → Caller
+has_applied old count pass place change = record { pass = pass; session = old.session; row = row_after old.row count; place = place; change = change }
 
 -- What a client promises of a batch: what the store returned, the pass after that, and the split after it. Nothing else
 -- changed.
@@ -82,5 +88,5 @@ pub record Applies (w : ℕ) (ops : List Op) (old new : Caller) (result : Result
   pub told : Result BatchDone CallFault
   pub applied : Applied w old.session (first_row old.row (length ops)) ops old.pass mid told
   pub follows : FollowsAll w (length ops) mid new.pass told result
-  pub client : new ≡ has_applied old (length ops) new.pass (place_after old.place result)
+  pub client : new ≡ has_applied old (length ops) new.pass (place_after old.place result) (change_after old.change result)
   pub same : SamePass old.pass new.pass

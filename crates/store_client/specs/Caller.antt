@@ -6,6 +6,7 @@ use Rattle.book_lock.specs.Own.{merge}
 use Rattle.book_lock.specs.Pass.{Known}
 use Rattle.plain_list.specs.History.{world_after}
 use Rattle.plain_list.specs.World.{World}
+use Rattle.plain_list.specs.declared.object_changes.Change.{Change}
 use Rattle.commit_book.specs.Room.{has_no_room}
 use Rattle.sessions.specs.Rooms.{cells_where_at}
 
@@ -30,12 +31,14 @@ is_near kept (Some cells) events = has_no_room kept cells events
 abbrev pub is_near_end : Known → Bool
 is_near_end pass = is_near pass.origin.kept (cells_where_at pass.origin pass.seen) (length pass.seen)
 
--- A client: its pass, its session, the number of its next row, and the place of its last call that was answered, or 0.
+-- A client: its pass, its session, the number of its next row, and the place of its last call that was answered, or 0, with
+-- what that call has changed.
 pub record Caller : Type 0 where
   pub pass : Known
   pub session : ℕ
   pub row : ℕ
   pub place : ℕ
+  pub change : Option Change
 
 -- What no call changes of a client: its store, its parts, its session, and what its history began from.
 abbrev pub Keeps : Caller → Caller → Type 0
@@ -45,9 +48,9 @@ Keeps old new = (new.pass.lock ≡ old.pass.lock) × (new.pass.parts ≡ old.pas
 abbrev pub next_row : ℕ → ℕ
 next_row row = min (row + 1) (2 ^ 32 - 1)
 
--- A client after one more call, with this pass and this place of its last answer.
-abbrev pub has_asked : Caller → Known → ℕ → Caller
-has_asked old pass place = record { pass = pass; session = old.session; row = next_row old.row; place = place }
+-- A client after one more call, with this pass, this place of its last answer, and this change.
+abbrev pub has_asked : Caller → Known → ℕ → Option Change → Caller
+has_asked old pass place change = record { pass = pass; session = old.session; row = next_row old.row; place = place; change = change }
 
 -- A client that has given one of its parts to another.
 abbrev pub without_part : Caller → Caller
@@ -55,7 +58,7 @@ without_part old = record old { pass = record old.pass { parts = old.pass.parts 
 
 -- The client that got this part. It has seen the same, and has made no call yet.
 abbrev pub with_part_of : Caller → ℕ → Caller
-with_part_of old session = record { pass = record old.pass { own = []; parts = 1 }; session = session; row = 0; place = 0 }
+with_part_of old session = record { pass = record old.pass { own = []; parts = 1 }; session = session; row = 0; place = 0; change = None }
 
 -- A client that has given so many of its parts to another.
 abbrev pub without_parts : ℕ → Caller → Caller
@@ -63,7 +66,7 @@ without_parts n old = record old { pass = record old.pass { parts = old.pass.par
 
 -- The client that got these parts. It has seen the same, and has made no call yet.
 abbrev pub with_parts_of : ℕ → Caller → ℕ → Caller
-with_parts_of n old session = record { pass = record old.pass { own = []; parts = n }; session = session; row = 0; place = 0 }
+with_parts_of n old session = record { pass = record old.pass { own = []; parts = n }; session = session; row = 0; place = 0; change = None }
 
 -- A client to which another client's pass was joined. It has seen what either has seen, and has the entries and the parts
 -- of both.

@@ -11,9 +11,9 @@ pub record IsGuest (lender : Known) (guest : Caller) : Type 0 where
   pub one_part : guest.pass.parts ≡ 1
   pub later : IsPrefix lender.seen guest.pass.seen
 
--- A caller's session, the number of its next row, and the place of its last answer stay the same.
+-- A caller's session, the number of its next row, the place of its last answer, and what that call has changed stay the same.
 abbrev pub SameLabel : Caller → Caller → Type 0
-SameLabel old new = (new.session ≡ old.session) × (new.row ≡ old.row) × (new.place ≡ old.place)
+SameLabel old new = (new.session ≡ old.session) × (new.row ≡ old.row) × (new.place ≡ old.place) × (new.change ≡ old.change)
 
 -- A client to which this many parts came back. Apart from them, only what it has seen and owns changed.
 pub record HasHome (n : ℕ) (old new : Caller) : Type 0 where

@@ -102,6 +102,7 @@ impl<'s, I: Index, D: LogDisk, O: Start> Client<'s, I, D, O> {
         let more = more_splits(&split, ops.len());
         split_some(rt, alloc, store, pass, session, more);
         self.place = done.place;
+        self.change = None;
         Ok(Replies {
             place: done.place,
             answers: done.answers,

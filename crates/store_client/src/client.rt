@@ -1,5 +1,5 @@
 //! A caller of a store, and its calls.
-ghost use Rattle.std.specs.Prelude.{◌≡◌, false, IfOk};
+ghost use Rattle.std.specs.Prelude.{◌≡◌, false, None, IfOk};
 ghost use Rattle.plain_list.specs.Answer.{IsValid};
 ghost use Rattle.plain_list.specs.History.{failed_cell};
 ghost use Rattle.plain_list.specs.World.{IsWorld};
@@ -18,7 +18,7 @@ use disk_trait::LogDisk;
 use index_layer::Index;
 use index_view::View;
 use io_edge::OpenGate;
-use plain_list::{Answer, Op, World};
+use plain_list::{Answer, Change, Op, World};
 use sessions::{CallFault, SharedBook, Split, Start, Store, WorldAt};
 use std::alloc::Global;
 use std::marker::{Brand, Model};
@@ -38,6 +38,7 @@ pub struct Client<'s, I: Index, D: LogDisk, O: Start> {
     pub(crate) session: u8,
     pub(crate) row: u32,
     pub(crate) place: u64,
+    pub(crate) change: Option<Change>,
 }
 
 impl<'s, I: Index, D: LogDisk, O: Start> Model for Client<'s, I, D, O> {
@@ -45,7 +46,7 @@ impl<'s, I: Index, D: LogDisk, O: Start> Model for Client<'s, I, D, O> {
 
     ghost Value = { Caller };
 
-    ghost view = { λ c. record { pass = c.pass; session = c.session; row = c.row; place = c.place } };
+    ghost view = { λ c. record { pass = c.pass; session = c.session; row = c.row; place = c.place; change = c.change } };
 
     ghost invariant = { λ c. IsFree c.store.now c.pass };
 }
@@ -89,7 +90,7 @@ impl<'s, I: Index, D: LogDisk, O: Start> Client<'s, I, D, O> {
         session: u8,
     ) -> Client<'s, I, D, O>
         requires { IsFree store.now pass }
-        ensures { result ≡ record { pass = pass; session = session; row = 0; place = 0 } }
+        ensures { result ≡ record { pass = pass; session = session; row = 0; place = 0; change = None } }
     {
         Client {
             store,
@@ -98,6 +99,7 @@ impl<'s, I: Index, D: LogDisk, O: Start> Client<'s, I, D, O> {
             session,
             row: 0,
             place: 0,
+            change: None,
         }
     }
 
@@ -113,6 +115,7 @@ impl<'s, I: Index, D: LogDisk, O: Start> Client<'s, I, D, O> {
             session: _,
             row: _,
             place: _,
+            change: _,
         } = self;
         pass
     }
@@ -123,6 +126,15 @@ impl<'s, I: Index, D: LogDisk, O: Start> Client<'s, I, D, O> {
         ensures { result ≡ self.now.place }
     {
         self.place
+    }
+
+    /// What the last call that was answered has changed, with its place: `None` if it was a query, or if its answer says that
+    /// nothing changed. After a report it is what its move or its put has changed. After a batch it is `None`:
+    /// `Change::of` has the change of each operation.
+    pub fn last_change(&self) -> Option<Change>
+        ensures { result ≡ self.now.change }
+    {
+        self.change
     }
 
     /// Says whether the client is a batch caller, which makes one call after another and can wait for its answers. Over a
@@ -224,6 +236,7 @@ impl<'s, I: Index, D: LogDisk, O: Start> Client<'s, I, D, O> {
         };
         let split = try_split(rt, alloc, store, pass, session, done.full);
         self.place = done.place;
+        self.change = Change::of(done.place, op, &done.answer);
         Ok(Reply {
             place: done.place,
             answer: done.answer,

@@ -21,7 +21,7 @@ use commit_book::Room;
 use disk_trait::LogDisk;
 use index_layer::Index;
 use index_view::View;
-use plain_list::{Op, PlacedList, Stamped, World};
+use plain_list::{Change, Op, PlacedList, Stamped, World};
 use sessions::{CallFault, Start, WorldAt};
 use std::marker::Model;
 use std::sync::atomic::{AtomicU64, Ordering};
@@ -59,6 +59,13 @@ impl<'p, 's, I: Index, D: LogDisk, O: Start, L: Lender> Guest<'p, 's, I, D, O, L
         ensures { result ≡ self.now.place }
     {
         self.desk.client.place()
+    }
+
+    /// What that call has changed, as `Client::last_change`.
+    pub fn last_change(&self) -> Option<Change>
+        ensures { result ≡ self.now.change }
+    {
+        self.desk.client.last_change()
     }
 
     /// As `Client::ask`.

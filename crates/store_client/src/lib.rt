@@ -1,6 +1,7 @@
 //! Short calls on a store: a client is one caller, with all that it needs.
 //!
-//! Contracts see a `Client` as its pass, its session, the number of its next row and the place of its last answer.
+//! Contracts see a `Client` as its pass, its session, the number of its next row, the place of its last answer, and what
+//! that call has changed.
 //!
 //! | Call | What it does |
 //! |---|---|
@@ -9,6 +10,7 @@
 //! | `report` | a move, or a put if there is no such object |
 //! | `apply` | all operations of a `Batch` as one step (`Applies`) |
 //! | `world`, `world_at`, `view` | a copy of all objects, also with its place, or a view without a copy |
+//! | `place`, `last_change` | the place of the last call that was answered, and what it has changed |
 //! | `closed` | the record whose append failed, if one did |
 //! | `another`, `join`, `learn` | share the store with other callers |
 //! | `work_all` | lets a team work at once, each in its own thread (`TeamDid`) |

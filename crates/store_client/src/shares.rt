@@ -27,6 +27,7 @@ impl<'s, I: Index, D: LogDisk, O: Start> Client<'s, I, D, O> {
             session,
             row: 0,
             place: 0,
+            change: None,
         }
     }
 

@@ -1,16 +1,17 @@
 //! What a program asks of a store: reports one after another, where an object is and since when, a copy with its place,
-//! and whether the store is closed.
+//! whether the store is closed, and what the last call has changed.
 use crate::logs::{END, HEADER, PUT_4, disk_with, failing_disk};
 use disk_mem::{DiskCall, Fail, MemDisk};
 use disk_trait::LogDisk;
 use flat_index::FlatIndex;
 use pisrakun::{
-    CallFault, Client, ClosedStore, Errand, FileStore, Index, Memory, MemoryStore, Point, PutReply,
-    Report, Stamped, Start, WorldAt,
+    Batch, CallFault, Change, Client, ClosedStore, Errand, FileStore, Index, Lender, Memory,
+    MemoryStore, Point, Pool, PutReply, Report, Service, Stamped, Start, WorldAt,
 };
 use std::alloc::Global;
 use std::process::Abort;
 use std::sync::Wait;
+use std::thread::Threads;
 
 const HERE: Point = Point { x: 5, y: 5 };
 
@@ -195,4 +196,133 @@ fn a_store_whose_splits_are_done_is_open(rt: HostRuntime) {
     let told = splits::<FlatIndex, MemDisk, _>(&rt, alloc, disk);
     let done = Ok(PutReply::Done);
     assert_same!(rt; told, (done, done, [None; 4]));
+}
+
+// What each of these calls has changed: none yet, a put, a report that moves, a late one, a report of another object, a
+// find, a removal, and a batch of a put.
+fn changes<I: Index, R: Wait>(
+    rt: &R,
+    store: &mut MemoryStore<I>,
+    batch: &Batch,
+) -> [Option<Change>; 8] {
+    let none = store.last_change();
+    let _ = store.put(rt, 7, HERE, 10);
+    let put = store.last_change();
+    let _ = store.report(rt, 7, THERE, 12);
+    let moved = store.last_change();
+    let _ = store.report(rt, 7, HERE, 11);
+    let late = store.last_change();
+    let _ = store.report(rt, 8, HERE, 11);
+    let new = store.last_change();
+    let _ = store.find(rt, 7);
+    let found = store.last_change();
+    let _ = store.remove(rt, 7);
+    let gone = store.last_change();
+    let _ = store.apply(rt, batch);
+    let many = store.last_change();
+    [none, put, moved, late, new, found, gone, many]
+}
+
+// A report of a new object makes a move and a put, so its change has the second place of the two.
+const CHANGED: [Option<Change>; 8] = [
+    None,
+    Some(Change {
+        place: 1,
+        id: 7,
+        before: None,
+        after: Some(HERE),
+    }),
+    Some(Change {
+        place: 2,
+        id: 7,
+        before: Some(HERE),
+        after: Some(THERE),
+    }),
+    None,
+    Some(Change {
+        place: 5,
+        id: 8,
+        before: None,
+        after: Some(HERE),
+    }),
+    None,
+    Some(Change {
+        place: 7,
+        id: 7,
+        before: Some(THERE),
+        after: None,
+    }),
+    None,
+];
+
+fn one_put(rt: &impl Abort, alloc: Global) -> Batch {
+    let mut batch = Batch::new(alloc);
+    batch.put(3, HERE, 0).ok().expect(rt, "no batch is made");
+    batch
+}
+
+fn changes_in_memory<I: Index, R: Wait + Abort>(rt: &R, alloc: Global) -> [Option<Change>; 8] {
+    let batch = one_put(rt, alloc);
+    let mut store = memory_store::<I>(rt, alloc);
+    let told = changes(rt, &mut store, &batch);
+    store.close();
+    told
+}
+
+#[test]
+fn a_store_tells_what_its_last_call_has_changed(rt: HostRuntime) {
+    let told = changes_in_memory::<FlatIndex, _>(&rt, rt.alloc());
+    assert_same!(rt; told, CHANGED);
+}
+
+// Puts an object by a client of a pool.
+#[derive(Clone, Copy)]
+struct Putter {
+    change: Option<Change>,
+}
+
+impl<R: Wait> Service<R> for Putter {
+    fn serve<I: Index, D: LogDisk, O: Start, L: Lender>(
+        &mut self,
+        rt: &R,
+        pool: &Pool<'_, I, D, O, L>,
+    ) {
+        let mut guest = pool.enter(rt);
+        let _ = guest.put(rt, 9, THERE, 0);
+        self.change = guest.last_change();
+    }
+}
+
+// What a put of the store, one of a session and one of a guest have changed, and what the store's last call has at the end.
+fn changes_of_others<I: Index + Send, R: Threads + Wait + Sync + Abort>(
+    rt: &R,
+    alloc: Global,
+) -> [Option<Change>; 3] {
+    let mut store = memory_store::<I>(rt, alloc);
+    let _ = store.put(rt, 7, HERE, 0);
+    let mut other = store.session(9);
+    let _ = other.put(rt, 8, HERE, 0);
+    let by_session = other.last_change();
+    let mut crew = [Putter { change: None }];
+    let _ = store.pool(rt, 1, 1, &mut crew);
+    let [putter] = crew;
+    let by_store = store.last_change();
+    store.close();
+    [by_store, by_session, putter.change]
+}
+
+fn put_at(place: u64, id: u64, at: Point) -> Option<Change> {
+    Some(Change {
+        place,
+        id,
+        before: None,
+        after: Some(at),
+    })
+}
+
+#[test]
+fn a_session_and_a_guest_tell_what_their_own_last_calls_have_changed(rt: HostRuntime) {
+    let told = changes_of_others::<FlatIndex, _>(&rt, rt.alloc());
+    let wanted = [put_at(1, 7, HERE), put_at(2, 8, HERE), put_at(3, 9, THERE)];
+    assert_same!(rt; told, wanted);
 }

@@ -8,6 +8,6 @@ returns-in-Err-clause-asked g c =
 
 pub returns-clause-asked : goal.returns-clause-asked
 returns-clause-asked g c =
-    rw (← c.self.view_is, c.saturating_add-self-inside.ensures)
+    rw (← c.self.view_is, c.saturating_add-self-inside.ensures, c.of-self-inside.ensures)
     (answers g.I.Index.WIDTH c.args.op.now _ c.args.steps.now c.call.new.steps c.call.new.pass c.try_split-split.new.pass c.in-Ok.done c.try_split-split.result c.in-Ok.ensures.called c.call.ensures.pass
     c.try_split-split.ensures.tries c.try_split-split.ensures.pass c.in-Ok.ensures.opened)
