@@ -1,15 +1,10 @@
 //! Tests of the lock by itself, and of sessions that run at the same time:
 //! - passes by hand;
 //! - lanes in an order that a gate makes, also lanes that a store runs by itself, and sixteen lanes together;
-//! - the index that one lane watches;
-//! - the verbs of a client, its teams and its views;
-//! - the objects of a store, and what a program asks of one;
-//! - the texts of refused calls;
-//! - stores over files, also when they continue over a second file or are refused;
-//! - a store in memory that goes on past the entries that a list takes.
+//! - the index that one lane watches.
 //!
-//! Not here: what can go wrong around the top call (`run_tests`), and the worked values of single crates
-//! (`crate_tests`).
+//! Not here: stores as programs use them, and their clients (`store_tests`), what can go wrong around the top call
+//! (`run_tests`), and the worked values of single crates (`crate_tests`).
 #![tactic(auto)]
 
 // `assert!` and `assert_eq!` as calls. They make the proof of a function with several of them much shorter.
@@ -28,41 +23,17 @@ macro_rules! assert_same {
 }
 
 #[cfg(test)]
-mod asked;
-#[cfg(test)]
-mod batches;
-#[cfg(test)]
 mod checks;
 #[cfg(test)]
-mod clients;
-#[cfg(test)]
 mod crowds;
-#[cfg(test)]
-mod fault_texts;
-#[cfg(test)]
-mod files;
 #[cfg(test)]
 mod fixtures;
 #[cfg(test)]
 mod lanes;
 #[cfg(test)]
-mod leaves_anew;
-#[cfg(test)]
 mod legal;
 #[cfg(test)]
-mod logs;
-#[cfg(test)]
-mod many_calls;
-#[cfg(test)]
-mod many_objects;
-#[cfg(test)]
-mod meetings;
-#[cfg(test)]
-mod memory_stores;
-#[cfg(test)]
 mod numbered;
-#[cfg(test)]
-mod object_stores;
 #[cfg(test)]
 mod orders;
 #[cfg(test)]
@@ -70,24 +41,10 @@ mod passes;
 #[cfg(test)]
 mod points;
 #[cfg(test)]
-mod pools;
-#[cfg(test)]
-mod refusals;
-#[cfg(test)]
-mod rotations;
-#[cfg(test)]
 mod sheets;
 #[cfg(test)]
 mod stores;
 #[cfg(test)]
-mod teams;
-#[cfg(test)]
 mod turns;
 #[cfg(test)]
 mod versions;
-#[cfg(test)]
-mod view_threads;
-#[cfg(test)]
-mod views;
-#[cfg(test)]
-mod worlds;

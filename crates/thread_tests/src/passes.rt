@@ -2,7 +2,7 @@
 ghost use Rattle.std.specs.Prelude.{◌≤◌};
 ghost use Rattle.store_client.specs.Caller.{IsFree, KeepsPass};
 
-use crate::stores::{events_of, new_store};
+use crate::stores::new_store;
 use crate::versions::call;
 use book_lock::Pass;
 use commit_book::Done;
@@ -51,7 +51,7 @@ fn find_apart<I: Index, D: LogDisk, R: Wait>(
 fn found<I: Index, D: LogDisk, R: Wait + Abort>(rt: &R, alloc: Global) -> (Done, u64) {
     let (store, mut pass) = new_store::<I, D>(rt, alloc);
     let answer = find_apart(rt, alloc, &store, &mut pass);
-    let events = events_of(store.close(pass));
+    let events = store.close(pass).events();
     (answer.expect(rt, "the call failed"), events)
 }
 

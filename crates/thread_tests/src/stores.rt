@@ -1,4 +1,4 @@
-//! Stores over new books, and what is left of a store that is closed.
+//! Stores over new books, and the index of a store that is closed.
 ghost use Rattle.std.specs.Prelude.{◌≡◌};
 ghost use Rattle.store_client.specs.Caller.{IsFree};
 
@@ -26,11 +26,6 @@ pub fn new_store<I: Index, D: LogDisk>(
         rt.panic("no store is made")
     };
     made
-}
-
-/// How many entries a book has.
-pub fn events_of<I: Index, D: LogDisk>(book: Book<I, D>) -> u64 {
-    book.events()
 }
 
 /// The index of a book.

@@ -1,5 +1,5 @@
 use Rattle.store_client.specs.Caller.{Keeps}
-use Rattle.thread_tests.proofs.clients.put_many.Given as goal
+use Rattle.store_tests.proofs.clients.put_many.Given as goal
 
 abbrev pub invariant-loop-x : goal.invariant-loop-x
 invariant-loop-x g l = Keeps l.initial.client l.client
