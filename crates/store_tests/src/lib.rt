@@ -28,6 +28,8 @@ mod asked;
 #[cfg(test)]
 mod batches;
 #[cfg(test)]
+mod batches_again;
+#[cfg(test)]
 mod checks;
 #[cfg(test)]
 mod clients;
@@ -53,6 +55,8 @@ mod object_stores;
 mod pools;
 #[cfg(test)]
 mod refusals;
+#[cfg(test)]
+mod resumes;
 #[cfg(test)]
 mod rotations;
 #[cfg(test)]
