@@ -4,4 +4,5 @@ pub mod BoxLeaves
 pub mod InOrder
 pub mod Listings
 pub mod Reaches
+pub mod Rests
 pub mod Wholes

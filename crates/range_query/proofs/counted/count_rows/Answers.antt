@@ -1,41 +1,20 @@
-use Rattle.std.proofs.Common.{◌≡◌, ◌∙◌, arith}
+use Rattle.std.proofs.Common.{◌≡◌, ◌+◌, ◌^◌, ◌<◌, length, sym, ap, subst, arith}
+use Rattle.table_share.specs.KeysUnder.{AreKeysUnder}
 use Rattle.range_query.specs.Cut.{number_in}
-use Rattle.range_query.specs.Masks.{number_masked}
-use Rattle.range_query.proofs.Axes.{told-x, told-y, x-first, y-first}
+use Rattle.range_query.proofs.Reaches.{area-box}
+use Rattle.range_query.proofs.Rests.{number_in-rest}
 use Rattle.range_query.proofs.counted.count_rows.Goals as goal
 
-pub count_masked-requires : goal.count_masked-requires
-count_masked-requires g c =
-    let region = c.args.region.now in
-    let lo = c.key_of_x.ensures in
-    let hi = c.key_of_x-then-area-region.ensures in
-    omega (arith, lo.key, hi.key, x-first region.lo.x region.hi.x lo.fits hi.fits c.requires.is_box.x)
+pub rest_of-requires : goal.rest_of-requires
+rest_of-requires g c = area-box c.args.name.now c.args.area.now c.requires.area
 
-pub count_masked-requires-then-area-region-2 : goal.count_masked-requires-then-area-region-2
-count_masked-requires-then-area-region-2 g c =
-    let region = c.args.region.now in
-    let lo = c.key_of_y.ensures in
-    let hi = c.key_of_y-then-area-region-2.ensures in
-    omega (arith, lo.key, hi.key, y-first region.lo.y region.hi.y lo.fits hi.fits c.requires.is_box.y)
-
-pub returns-then-area-region-clause-number : goal.returns-then-area-region-clause-number
-returns-then-area-region-clause-number g c under fits =
-    let region = c.args.region.now in
+pub returns-in-Some-clause-number : goal.returns-in-Some-clause-number
+returns-in-Some-clause-number g c under fits =
+    let name = c.args.name.now in
     let rows = c.args.bucket.now.rows in
-    let lo = c.key_of_x.ensures in
-    let hi = c.key_of_x-then-area-region.ensures in
-    let same : number_masked 0xAAAAAAAAAAAAAAAA c.key_of_x.result c.key_of_x-then-area-region.result c.rows-rows.result ≡ number_in region rows =
-    (λ i. number_masked 0xAAAAAAAAAAAAAAAA (lo.key i) (hi.key i) (c.rows-rows.ensures.rows i))
-    ∙ told-x c.args.area.now region c.args.name.now c.requires.area lo.fits hi.fits (omega (arith, c.if-region-area.true)) (omega (arith, c.if-area-region.true)) rows under in
-    c.count_masked.ensures (omega (arith, same, fits)) ∙ same
-
-pub returns-then-area-region-2-clause-number : goal.returns-then-area-region-2-clause-number
-returns-then-area-region-2-clause-number g c under fits =
-    let region = c.args.region.now in
-    let rows = c.args.bucket.now.rows in
-    let lo = c.key_of_y.ensures in
-    let hi = c.key_of_y-then-area-region-2.ensures in
-    let same : number_masked 0x5555555555555555 c.key_of_y.result c.key_of_y-then-area-region-2.result c.rows-rows.result ≡ number_in region rows =
-    (λ i. number_masked 0x5555555555555555 (lo.key i) (hi.key i) (c.rows-rows.ensures.rows i))
-    ∙ told-y c.args.area.now region c.args.name.now c.requires.area lo.fits hi.fits (omega (arith, c.if-region-area-2.true)) (omega (arith, c.if-area-region-2.true)) rows under in
-    c.count_masked-then-area-region-2.ensures (omega (arith, same, fits)) ∙ same
+    let rest = c.in-Some.rest in
+    let both : number_in rest rows + number_in c.args.region.now rows ≡ length rows = number_in-rest c.args.area.now c.args.region.now rest name c.requires.area c.in-Some.ensures rows under in
+    let same : number_in rest c.rows-rows.result ≡ number_in rest rows = ap (number_in rest) c.rows-rows.ensures.rows in
+    let outside = c.count_part-outside.ensures (subst (AreKeysUnder name) (sym c.rows-rows.ensures.rows) under) in
+    let few : number_in rest c.rows-rows.result < 2 ^ 64 = omega (arith, both, same, c.count.ensures.count, c.count.type_inv) in
+    omega (arith, c.saturating_sub.ensures, outside few, same, both, c.count.ensures.count)
