@@ -2,8 +2,9 @@
 // without proofs and versions, over the points of crates/views. Words: how many points, and how many bytes of other
 // memory are taken for each eighth point, as a map by id does (0: none). Prints nanoseconds and sums.
 //
-// The counts: as `range_query` counts; without the rows that the order of the keys decides; without touching halves
-// that are inside or outside; and with both.
+// The counts: each row of a leaf that the box cuts is tested; only rows between the keys of the corners of the part
+// outside are, as `range_query` does; the same without a search for the first of them; halves that are inside or outside
+// aren't touched; and the last two together.
 #include "common.hpp"
 
 const u64 OF_X = 0xaaaaaaaaaaaaaaaa, OF_Y = OF_X >> 1;
@@ -101,19 +102,38 @@ static u64 rows_by_ends(const Bucket &b, const Box &area, const Box &w) {
     return b.len - out;
 }
 
-template <bool ENDS> static u64 leaf_in(const Node &n, const Box &area, const Box &w) {
-    return ENDS ? rows_by_ends(bucket(n), area, w) : rows_in(bucket(n), area, w);
+// The same, as `range_query` does it: a search finds the first row that may be outside, and the walk goes forward.
+static u64 rows_by_rest(const Bucket &b, const Box &area, const Box &w) {
+    bool by_x = w.y <= area.y && area.b <= w.b, by_y = w.x <= area.x && area.a <= w.a;
+    if (!by_x && !by_y) return rows_in(b, area, w);
+    u32 from = by_x ? w.x : w.y, to = by_x ? w.a : w.b, low = by_x ? area.x : area.y, high = by_x ? area.a : area.b;
+    Box rest = area;
+    if (low < from && high <= to) (by_x ? rest.a : rest.b) = from - 1;
+    else if (from <= low && to < high) (by_x ? rest.x : rest.y) = to + 1;
+    else return rows_in(b, area, w);
+    u64 mask = by_x ? OF_X : OF_Y, begin = key(rest.x, rest.y), end = key(rest.a, rest.b), out = 0;
+    u64 first = begin & mask, span = (end & mask) - first, i = 0;
+    if (b.len && b.rows[0].key < begin)
+        i = std::lower_bound(b.rows, b.rows + b.len, begin, [](Keyed r, u64 k) { return r.key < k; }) - b.rows;
+    for (; i < b.len && b.rows[i].key <= end; ++i) out += (b.rows[i].key & mask) - first <= span;
+    return b.len - out;
 }
-template <bool ENDS> static u64 count(const Node &n, int depth, const Box &area, const Box &w) {
+
+enum Rows { EACH, BY_ENDS, BY_REST };
+template <Rows ROWS> static u64 leaf_in(const Node &n, const Box &area, const Box &w) {
+    if (ROWS == BY_REST) return rows_by_rest(bucket(n), area, w);
+    return ROWS == BY_ENDS ? rows_by_ends(bucket(n), area, w) : rows_in(bucket(n), area, w);
+}
+template <Rows ROWS> static u64 count(const Node &n, int depth, const Box &area, const Box &w) {
     if (!meets(area, w)) return 0;
     if (inside(area, w)) return number(n);
-    if (!n.is_inner) return leaf_in<ENDS>(n, area, w);
-    u64 low = count<ENDS>(pair(n).half[0], depth + 1, half(area, depth, 0), w);
-    return low + count<ENDS>(pair(n).half[1], depth + 1, half(area, depth, 1), w);
+    if (!n.is_inner) return leaf_in<ROWS>(n, area, w);
+    u64 low = count<ROWS>(pair(n).half[0], depth + 1, half(area, depth, 0), w);
+    return low + count<ROWS>(pair(n).half[1], depth + 1, half(area, depth, 1), w);
 }
 // For a node that the box cuts. Of a half that it doesn't cut, the number is the pair's less the other half's.
-template <bool ENDS> static u64 count_cut(const Node &n, int depth, const Box &area, const Box &w) {
-    if (!n.is_inner) return leaf_in<ENDS>(n, area, w);
+template <Rows ROWS> static u64 count_cut(const Node &n, int depth, const Box &area, const Box &w) {
+    if (!n.is_inner) return leaf_in<ROWS>(n, area, w);
     u64 sum = 0, rest = pair(n).count;
     bool is_rest_in = false, is_rest_out = false;
     for (int bit = 0; bit < 2; ++bit) {
@@ -121,7 +141,7 @@ template <bool ENDS> static u64 count_cut(const Node &n, int depth, const Box &a
         Box part = half(area, depth, bit);
         if (inside(part, w)) is_rest_in = true;
         else if (!meets(part, w)) is_rest_out = true;
-        else { sum += count_cut<ENDS>(kid, depth + 1, part, w); rest -= number(kid); }
+        else { sum += count_cut<ROWS>(kid, depth + 1, part, w); rest -= number(kid); }
     }
     if (is_rest_in && is_rest_out) return sum + number(pair(n).half[inside(half(area, depth, 1), w)]);
     return is_rest_in ? sum + rest : sum;
@@ -157,9 +177,10 @@ int main(int argc, char **argv) {
     const u32 top = 0xffffffffu;
     const Box all = {0, 0, top, top}, inner = {1, 1, top - 1, top - 1};
     measure("scan, a row", 10, points, [&] { return scan(root); });
-    measure("count", 1000, 1, [&] { return count<false>(root, 0, all, inner); });
-    measure("count, ends", 1000, 1, [&] { return count<true>(root, 0, all, inner); });
-    measure("count, cut halves", 1000, 1, [&] { return count_cut<false>(root, 0, all, inner); });
-    measure("count, both", 1000, 1, [&] { return count_cut<true>(root, 0, all, inner); });
+    measure("count, each row", 1000, 1, [&] { return count<EACH>(root, 0, all, inner); });
+    measure("count, the rest", 1000, 1, [&] { return count<BY_REST>(root, 0, all, inner); });
+    measure("count, ends", 1000, 1, [&] { return count<BY_ENDS>(root, 0, all, inner); });
+    measure("count, cut halves", 1000, 1, [&] { return count_cut<EACH>(root, 0, all, inner); });
+    measure("count, cut halves and ends", 1000, 1, [&] { return count_cut<BY_ENDS>(root, 0, all, inner); });
     return 0;
 }
