@@ -2,6 +2,7 @@
 //! - the verbs of a client, what it tells besides, its batches, teams, pools and views;
 //! - the objects of a store;
 //! - the texts of refused calls;
+//! - stores whose records wait for a sync;
 //! - stores over files, also when they continue over a second file or are refused;
 //! - a store in memory that goes on past the entries that a list takes.
 //!
@@ -61,6 +62,8 @@ mod resumes;
 mod rotations;
 #[cfg(test)]
 mod stores;
+#[cfg(test)]
+mod synced;
 #[cfg(test)]
 mod teams;
 #[cfg(test)]
