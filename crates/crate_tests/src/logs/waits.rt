@@ -12,20 +12,24 @@ use std::alloc::Global;
 use std::process::Abort;
 use zorder::Point;
 
-// Put 8 at (3,5), move 7 to (9,1), and remove 8.
-const WAITING: [Cell; 3] = [
-    Cell::Put {
-        id: 8,
-        at: AT,
-        moment: 11,
-    },
-    Cell::Move {
-        id: 7,
-        at: Point { x: 9, y: 1 },
-        moment: 12,
-    },
-    Cell::Remove { id: 8 },
-];
+const PUT_8: Cell = Cell::Put {
+    id: 8,
+    at: AT,
+    moment: 11,
+};
+
+const MOVE_7: Cell = Cell::Move {
+    id: 7,
+    at: Point { x: 9, y: 1 },
+    moment: 12,
+};
+
+const REMOVE_8: Cell = Cell::Remove { id: 8 };
+
+const WAITING: [Cell; 3] = [PUT_8, MOVE_7, REMOVE_8];
+
+// The cells after the first one.
+const OTHERS: [Cell; 2] = [MOVE_7, REMOVE_8];
 
 // The log of put 7 and the first `count` of the cells.
 fn with_first(rt: &impl Abort, alloc: Global, count: usize) -> Vec<u8> {
@@ -80,9 +84,7 @@ fn cells_that_wait_are_added_by_four_calls(rt: HostRuntime) {
 #[test]
 fn cells_after_those_that_wait_and_the_first_of_them_are_added_in_order(rt: HostRuntime) {
     let first = waiting_of(&rt, rt.alloc(), &WAITING[..1]);
-    let mut all = first
-        .with(rt.alloc(), &WAITING[1..])
-        .expect(&rt, "no memory");
+    let mut all = first.with(rt.alloc(), &OTHERS).expect(&rt, "no memory");
     for len in [3_usize, 2] {
         if len <= all.len() {
             all.truncate(len);
@@ -113,11 +115,11 @@ fn take_all<D: LogDisk>(rt: &impl Abort, alloc: Global, journal: &mut Journal<D>
     if journal.closed().is_some() || journal.cells() > 15 {
         rt.panic("no room")
     }
-    assert_is!(rt; journal.append(&WAITING[0]).is_ok());
+    assert_is!(rt; journal.append(&PUT_8).is_ok());
     if journal.closed().is_some() || journal.cells() > 15 {
         rt.panic("no room")
     }
-    assert_is!(rt; journal.append_all(alloc, &WAITING[1..]).is_ok());
+    assert_is!(rt; journal.append_all(alloc, &OTHERS).is_ok());
 }
 
 fn sync<D: LogDisk>(rt: &impl Abort, journal: &mut Journal<D>) -> Option<AppendLost> {
