@@ -81,10 +81,18 @@ fn cells_that_wait_are_added_by_four_calls(rt: HostRuntime) {
     }
 }
 
+// The cells that wait, and the others after them.
+fn with_others(rt: &impl Abort, alloc: Global, waiting: &Waiting) -> Waiting {
+    if waiting.len() > 15 {
+        rt.panic("too many")
+    }
+    waiting.with(alloc, &OTHERS).expect(rt, "no memory")
+}
+
 #[test]
 fn cells_after_those_that_wait_and_the_first_of_them_are_added_in_order(rt: HostRuntime) {
     let first = waiting_of(&rt, rt.alloc(), &WAITING[..1]);
-    let mut all = first.with(rt.alloc(), &OTHERS).expect(&rt, "no memory");
+    let mut all = with_others(&rt, rt.alloc(), &first);
     for len in [3_usize, 2] {
         if len <= all.len() {
             all.truncate(len);
