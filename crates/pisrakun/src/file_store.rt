@@ -1,9 +1,9 @@
 //! A store over a file as one value, or over two files alternately.
-ghost use Rattle.std.specs.Prelude.{◌≡◌, ◌≢◌, ◌⊎◌, [], true, false, IfOk, IfErr, is_some, ⊤};
+ghost use Rattle.std.specs.Prelude.{◌≡◌, ◌≢◌, ◌⊎◌, [], true, false, IfOk, IfErr, ⊤};
 ghost use Rattle.std.specs.Result.{IsErrAnd};
 ghost use Rattle.recovery.specs.declared.seen.OpenFault.{OpenFault};
 ghost use Rattle.plain_list.specs.History.{failed_cell};
-ghost use Rattle.sessions.specs.Shared.{HasWorld, origin_of};
+ghost use Rattle.sessions.specs.Shared.{HasWorld, StartsAs, origin_of};
 ghost use Rattle.store_file.specs.Closed.{ClosesStore};
 ghost use Rattle.store_file.specs.Either.{OpensEither, RefusesEither, IsFreeEither};
 ghost use Rattle.store_file.specs.Files.{CanOpen, ShowsFault};
@@ -161,7 +161,7 @@ impl<I: Index, D: LogDisk> ObjectStore<I, D, OverFile> {
     ) -> Result<ObjectStore<I, D, OverFile>, Book<I, D>>
         requires none { book.entries ≡ [] }
         requires world { HasWorld book }
-        requires logged { is_some book.log ≡ true }
+        requires starts { StartsAs D.drive ⊥ (λ start waits. waits ≡ false) book.log }
         ensures store { IfOk result (λ store. store ≡ new_in 0 (first_pass store.pass.lock (origin_of D.drive book))) }
         ensures back { IfErr result (λ back. back ≡ book) }
     {

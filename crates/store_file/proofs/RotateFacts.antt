@@ -117,11 +117,8 @@ module _ {D : Type 0} (drive : D → Drive) (b new : BookView D) (seen : Seen) (
   pub new-none : new.entries ≡ []
   new-none = ap (λ (v : BookView D). v.entries) is
 
-  pub new-log : new.log ≡ Some (first_log log start)
-  new-log = ap (λ (v : BookView D). v.log) is
-
-  pub new-logged : is_some new.log ≡ true
-  new-logged = ap is_some new-log
+  pub new-starts : StartsAs drive ⊥ (λ start waits. waits ≡ false) new.log
+  new-starts = starts-over drive new (rotated seen log start b) is refl
 
   pub new-opening : seen.world ≡ world_after b.opening.world b.entries → HasWorld b → IsWorld new.opening.world
   new-opening world has = subst IsWorld (sym (ap (λ (v : BookView D). v.opening.world) is ∙ world)) has.world
@@ -159,7 +156,7 @@ module _ {D : Type 0} (drive : D → Drive) (old new : BookView D) (leaves : Lis
     origin_is = ap (origin_of drive) on.book_is ∙ origin-now;
     none = ap (λ (v : BookView D). v.entries) on.book_is ∙ new-none drive begun new seen log start is counts;
     has = subst HasWorld (sym on.book_is) (new-has drive begun new seen log start is counts world (record { world = has.world }));
-    logged = ap (λ (v : BookView D). is_some v.log) on.book_is ∙ new-logged drive begun new seen log start is counts;
+    starts = starts-over drive it new on.book_is (new-starts drive begun new seen log start is counts);
     leaves = leaves-of Came left on.leaves;
   }
 
@@ -257,7 +254,7 @@ module _ {D : Type 0} (drive : D → Drive) (w : ℕ) (b : BookView D) (old : Kn
         to = rotates-to on.leaves.last (origin_of drive new) on.leaves.last_is on.origin_is;
         none = on.none;
         has = on.has;
-        logged = on.logged;
+        starts = on.starts;
         leaves = on.leaves.leaves;
       }
 

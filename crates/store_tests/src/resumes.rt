@@ -1,6 +1,6 @@
 //! A store that begins with the book that a rotation left.
-ghost use Rattle.std.specs.Prelude.{◌≡◌, [], true, is_some};
-ghost use Rattle.sessions.specs.Shared.{HasWorld};
+ghost use Rattle.std.specs.Prelude.{◌≡◌, [], false};
+ghost use Rattle.sessions.specs.Shared.{HasWorld, StartsAs};
 
 use crate::files::filled;
 use crate::logs::{ANEW, disk_of, disk_with, expect_bytes};
@@ -22,7 +22,7 @@ fn book_left<I: Index, D: LogDisk, R: Wait + Abort>(
 ) -> Book<I, D>
     ensures none { result.entries ≡ [] }
     ensures world { HasWorld result }
-    ensures logged { is_some result.log ≡ true }
+    ensures starts { StartsAs D.drive ⊥ (λ start waits. waits ≡ false) result.log }
 {
     let (store, pass) = filled::<I, D, R>(rt, alloc, disk);
     let store = ObjectStore::from_parts(alloc, store, pass);
