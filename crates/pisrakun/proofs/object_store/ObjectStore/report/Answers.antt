@@ -23,25 +23,29 @@ pub returns-in-Ok-Done-clause-reports : goal.returns-in-Ok-Done-clause-reports
 returns-in-Ok-Done-clause-reports g c =
     let w = g.I.Index.WIDTH in
     let mid = c.move_to.new.self in
-    reports-once w c.args.id c.args.at c.args.moment c.args.self.now c.put.new.self (Ok report.New)
-    (mid,
+    reports-once w c.args.id c.args.at c.args.moment c.args.self.now c.put.new.self (Ok report.New) (
+      mid,
       subst (λ (m : MoveReply). AskedAs move_answer w (Move c.args.id c.args.at c.args.moment) c.args.self.now mid (Ok m)) c.in-Ok-Absent.field-0-is c.in-Ok-Absent.ensures.asked,
-      subst (λ (p : PutReply). AskedAs put_answer w (Put c.args.id c.args.at c.args.moment) mid c.put.new.self (Ok p)) c.in-Ok-Done.field-0-is c.in-Ok-Done.ensures.asked)
+      subst (λ (p : PutReply). AskedAs put_answer w (Put c.args.id c.args.at c.args.moment) mid c.put.new.self (Ok p)) c.in-Ok-Done.field-0-is c.in-Ok-Done.ensures.asked,
+    )
 
 pub returns-in-Ok-Full-clause-reports : goal.returns-in-Ok-Full-clause-reports
 returns-in-Ok-Full-clause-reports g c =
     let w = g.I.Index.WIDTH in
     let mid = c.move_to.new.self in
-    reports-once w c.args.id c.args.at c.args.moment c.args.self.now c.put.new.self (Ok report.Full)
-    (mid,
+    reports-once w c.args.id c.args.at c.args.moment c.args.self.now c.put.new.self (Ok report.Full) (
+      mid,
       subst (λ (m : MoveReply). AskedAs move_answer w (Move c.args.id c.args.at c.args.moment) c.args.self.now mid (Ok m)) c.in-Ok-Absent.field-0-is c.in-Ok-Absent.ensures.asked,
-      subst (λ (p : PutReply). AskedAs put_answer w (Put c.args.id c.args.at c.args.moment) mid c.put.new.self (Ok p)) c.in-Ok-Full.field-0-is c.in-Ok-Full.ensures.asked)
+      subst (λ (p : PutReply). AskedAs put_answer w (Put c.args.id c.args.at c.args.moment) mid c.put.new.self (Ok p)) c.in-Ok-Full.field-0-is c.in-Ok-Full.ensures.asked,
+    )
 
 pub returns-in-Err-put-clause-reports : goal.returns-in-Err-put-clause-reports
 returns-in-Err-put-clause-reports g c =
     let w = g.I.Index.WIDTH in
     let mid = c.move_to.new.self in
     reports-once w c.args.id c.args.at c.args.moment c.args.self.now c.put.new.self (Err c.in-Err-put.fault)
-    (inr (mid,
+    (inr (
+      mid,
       subst (λ (m : MoveReply). AskedAs move_answer w (Move c.args.id c.args.at c.args.moment) c.args.self.now mid (Ok m)) c.in-Ok-Absent.field-0-is c.in-Ok-Absent.ensures.asked,
-      c.in-Err-put.ensures.asked))
+      c.in-Err-put.ensures.asked,
+    ))
