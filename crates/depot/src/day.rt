@@ -52,7 +52,7 @@ pub fn end_days<D: LogDisk, R: Wait>(rt: &R, vans: Vans<D>, spare: D) -> Result<
             },
         ) => store,
         Err(NotRotatedStore::Unsure { disk: _, spare: _ }) => bail!("the other drive failed"),
-        Err(NotRotatedStore::Uncleared { book: _, old: _ }) => bail!("the first drive failed"),
+        Err(NotRotatedStore::Uncleared { book: _, disk: _ }) => bail!("the first drive failed"),
         Err(NotRotatedStore::Memory { book: _, spare: _ }) => bail!("no memory"),
     };
     match vans.close().lost {

@@ -16,7 +16,7 @@ mod yard;
 
 use anyhow::Result;
 use day::{DayEnd, end_days, look_after, play_day};
-use pisrakun::{FileDisk, FileStore, KdTrie, LogDisk, OpenedPair, Which};
+use pisrakun::{FileDisk, FileStore, KdTrie, LogDisk, OpenedPair, OverFile, Which};
 use std::alloc::Global;
 use std::io;
 use std::io::Print;
@@ -54,7 +54,7 @@ fn tell_day(rt: &impl Print, number: usize, end: &DayEnd) -> io::Result<()> {
 }
 
 // The store over the log in one of the files.
-fn open_vans<D: LogDisk>(alloc: Global, first: D, second: D) -> Result<OpenedPair<KdTrie, D>> {
+fn open_vans<D: LogDisk>(alloc: Global, first: D, second: D) -> Result<OpenedPair<KdTrie, D, OverFile>> {
     let opened = FileStore::<KdTrie, D>::open_pair(alloc, first, FIRST, second, SECOND, BUCKET);
     Ok(opened.map_err(|refused| refused.cause)?)
 }

@@ -27,6 +27,8 @@ use Rattle.sessions.specs.Lanes.{Tries}
 use Rattle.sessions.specs.Runs.{HasLooked}
 use Rattle.sessions.specs.Splits.{BeginsSplit, InstallsSplit, AbandonsSplit, RanOut, GivesUp, NotInstalled, SplitEnds, state_of}
 use Rattle.sessions.specs.Steps.{all_parts, has_added, has_seen, Leaves}
+use Rattle.sessions.specs.Syncs.{SyncsPass}
+use Rattle.commit_book.specs.Syncs.{lost_sync}
 use Rattle.store_client.specs.Asked.{Asked, Follows}
 use Rattle.store_client.specs.Batches.{Applies, FollowsAll, TriesEach, first_row}
 use Rattle.store_client.specs.Caller.{Caller, world_seen}
@@ -194,3 +196,18 @@ module _ (w : ℕ) (ops : List Op) (old new : Caller) (all : old.pass.parts ≡ 
 
   pub does-all-now : (result : Result Replies CallFault) → Applies w ops old new result → DoesAllNow ops old new result
   does-all-now result applies = batch-by-told applies.mid (first_row old.row (length ops)) applies.told result applies.applied applies.follows
+
+-- A sync sees the same objects.
+pub syncs-same : (old new : Known) (r : Result ℕ BookFault) → old.parts ≡ all_parts → SyncsPass old new r → SeesSame old new
+syncs-same old new (Ok place) all is = seen old new is.before (is.alone all) is.leaves.0
+syncs-same old new (Err (book.Disk cell)) all is = added old new is.before (Fail cell lost_sync) (is.alone all) refl is.leaves
+syncs-same old new (Err (book.Closed cell)) all is = seen old new is.before (is.alone all) is.leaves
+syncs-same old new (Err book.HistoryFull) all is = seen old new is.before (is.alone all) is.leaves
+syncs-same old new (Err book.LogFull) all is = seen old new is.before (is.alone all) is.leaves
+syncs-same old new (Err book.Memory) all is = seen old new is.before (is.alone all) is.leaves
+syncs-same old new (Err (book.Room cells events)) all is = seen old new is.before (is.alone all) is.leaves
+syncs-same old new (Err (book.Splitting number)) all is = seen old new is.before (is.alone all) is.leaves
+syncs-same old new (Err book.Deep) all is = seen old new is.before (is.alone all) is.leaves
+syncs-same old new (Err book.NoLeaf) all is = seen old new is.before (is.alone all) is.leaves
+syncs-same old new (Err (book.Stale number)) all is = seen old new is.before (is.alone all) is.leaves
+syncs-same old new (Err (book.NotOpen number)) all is = seen old new is.before (is.alone all) is.leaves

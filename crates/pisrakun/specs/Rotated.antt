@@ -17,14 +17,14 @@ use Rattle.pisrakun.specs.declared.label.Label.{Label}
 abbrev pub IsFirstIfKept : {I D P : Type 0} → NotRotated I D P → Type 0
 IsFirstIfKept (apart.Kept store pass spare cause) = IsFirst store pass
 IsFirstIfKept (apart.Unsure disk spare) = ⊤
-IsFirstIfKept (apart.Uncleared book old) = ⊤
+IsFirstIfKept (apart.Uncleared book disk) = ⊤
 IsFirstIfKept (apart.Memory book spare) = ⊤
 
 -- The same, with the store and its pass as one value that calls with this label.
 abbrev pub IsAsOne : {I D P T : Type 0} → Label → NotRotated I D P → NotRotatedStore I D T → Type 0
 IsAsOne label (apart.Kept store pass spare cause) e = e ≡ Kept (record { pass = pass; session = label.session; row = label.row; place = label.place; change = label.change }) spare cause
 IsAsOne label (apart.Unsure disk spare) e = e ≡ Unsure disk spare
-IsAsOne label (apart.Uncleared book old) e = e ≡ Uncleared book old
+IsAsOne label (apart.Uncleared book disk) e = e ≡ Uncleared book disk
 IsAsOne label (apart.Memory book spare) e = e ≡ Memory book spare
 
 -- What is left of a store that doesn't continue over a second file. If nothing was written there, it is the same store,

@@ -18,7 +18,7 @@ use crate::object_store::ObjectStore;
 use commit_book::Book;
 use disk_trait::LogDisk;
 use index_layer::Index;
-use sessions::Store;
+use sessions::{Start, Store};
 use std::alloc::Global;
 use std::sync::Wait;
 use store_file::{
@@ -42,8 +42,8 @@ pub struct Found {
 }
 
 /// A store over one of two files.
-pub struct OpenedPair<I: Index, D: LogDisk> {
-    pub store: ObjectStore<I, D, OverFile>,
+pub struct OpenedPair<I: Index, D: LogDisk, O: Start> {
+    pub store: ObjectStore<I, D, O>,
     /// The drive of the other file, which has an empty log: `rotate` takes it.
     pub spare: D,
     /// The file that the store continues over.
@@ -52,8 +52,8 @@ pub struct OpenedPair<I: Index, D: LogDisk> {
 }
 
 /// A store that continues over a second file.
-pub struct RotatedStore<I: Index, D: LogDisk> {
-    pub store: ObjectStore<I, D, OverFile>,
+pub struct RotatedStore<I: Index, D: LogDisk, O: Start> {
+    pub store: ObjectStore<I, D, O>,
     /// The drive of the first file, which has an empty log: the next rotation takes it.
     pub spare: D,
 }
@@ -78,7 +78,8 @@ pub enum NotRotatedStore<I: Index, D: LogDisk> {
     /// either file: drop the book and the drive, and open both files with `open_pair`.
     Uncleared {
         book: Book<I, D>,
-        old: D,
+        /// The drive of the first file.
+        disk: D,
     },
     /// Memory ran out for the new lock. The book continues over the second file, and the first file has an empty log.
     /// `FileStore::resume` begins a store with this book.
@@ -125,7 +126,7 @@ impl<I: Index, D: LogDisk> ObjectStore<I, D, OverFile> {
         second: D,
         second_file: &str,
         bucket: u32,
-    ) -> Result<OpenedPair<I, D>, NotEither<D>>
+    ) -> Result<OpenedPair<I, D, OverFile>, NotEither<D>>
         ensures opened { IfOk result (λ o. OpensEither D.drive I.WIDTH bucket first_file.now second_file.now first second
             o.which o.store.pass.lock o.store.pass o.found.objects o.found.latest o.found.records o.spare) }
         ensures new { IfOk result (λ o. IsNewIn 0 o.store) }
@@ -186,7 +187,7 @@ impl<I: Index, D: LogDisk> ObjectStore<I, D, OverFile> {
         self,
         rt: &R,
         spare: D,
-    ) -> Result<RotatedStore<I, D>, NotRotatedStore<I, D>>
+    ) -> Result<RotatedStore<I, D, OverFile>, NotRotatedStore<I, D>>
         ensures rotated { IfOk result (λ r. IsRotated D.drive I.WIDTH (AreLeft I.WIDTH self.pass.origin self.pass.seen) self.pass
             spare r.store.pass.lock r.store.pass r.spare) }
         ensures new { IfOk result (λ r. IsNewIn self.session r.store) }
@@ -207,7 +208,7 @@ impl<I: Index, D: LogDisk> ObjectStore<I, D, OverFile> {
         self,
         rt: &R,
         spare: D,
-    ) -> Result<RotatedStore<I, D>, NotRotatedStore<I, D>>
+    ) -> Result<RotatedStore<I, D, OverFile>, NotRotatedStore<I, D>>
         ensures rotated { IfOk result (λ r. IsRotated D.drive I.WIDTH (AreAnew I.WIDTH self.pass.origin self.pass.seen) self.pass
             spare r.store.pass.lock r.store.pass r.spare) }
         ensures new { IfOk result (λ r. IsNewIn self.session r.store) }
@@ -223,11 +224,11 @@ impl<I: Index, D: LogDisk> ObjectStore<I, D, OverFile> {
     }
 }
 
-// One value of an opened store and its pass, and what was found.
-fn opened_file<I: Index, D: LogDisk>(
+/// One value of an opened store and its pass, and what was found.
+pub(crate) fn opened_file<I: Index, D: LogDisk, O: Start>(
     alloc: Global,
-    opened: OpenedStore<I, D, OverFile>,
-) -> (ObjectStore<I, D, OverFile>, Found)
+    opened: OpenedStore<I, D, O>,
+) -> (ObjectStore<I, D, O>, Found)
     requires { IsFirst opened.store opened.pass }
     ensures store { result.0 ≡ new_in 0 opened.pass }
     ensures found { result.1 ≡ record { objects = opened.points; latest = opened.latest; records = opened.records } }
@@ -247,8 +248,11 @@ fn opened_file<I: Index, D: LogDisk>(
     (ObjectStore::from_parts(alloc, store, pass), found)
 }
 
-// The same over one of two files.
-fn opened_pair<I: Index, D: LogDisk>(alloc: Global, opened: OpenedEither<I, D>) -> OpenedPair<I, D>
+/// The same over one of two files.
+pub(crate) fn opened_pair<I: Index, D: LogDisk, O: Start>(
+    alloc: Global,
+    opened: OpenedEither<I, D, O>,
+) -> OpenedPair<I, D, O>
     requires { IsFirst opened.store opened.pass }
     ensures store { result.store ≡ new_in 0 opened.pass }
     ensures spare { result.spare ≡ opened.spare }
@@ -276,12 +280,12 @@ fn opened_pair<I: Index, D: LogDisk>(alloc: Global, opened: OpenedEither<I, D>) 
     }
 }
 
-// One value of a store that was rotated.
-fn rotated_store<I: Index, D: LogDisk>(
+/// One value of a store that was rotated.
+pub(crate) fn rotated_store<I: Index, D: LogDisk, O: Start>(
     alloc: Global,
     session: u8,
-    rotated: Rotated<I, D>,
-) -> RotatedStore<I, D>
+    rotated: Rotated<I, D, O>,
+) -> RotatedStore<I, D, O>
     requires { IsFirst rotated.store rotated.pass }
     ensures store { result.store ≡ new_in session rotated.pass }
     ensures spare { result.spare ≡ rotated.spare }
@@ -317,7 +321,7 @@ fn not_rotated<I: Index, D: LogDisk>(
             }
         }
         NotRotated::Unsure { disk, spare } => NotRotatedStore::Unsure { disk, spare },
-        NotRotated::Uncleared { book, old } => NotRotatedStore::Uncleared { book, old },
+        NotRotated::Uncleared { book, disk } => NotRotatedStore::Uncleared { book, disk },
         NotRotated::Memory { book, spare } => NotRotatedStore::Memory { book, spare },
     }
 }

@@ -4,6 +4,7 @@
 //! |---|---|
 //! | keep objects in memory | `MemoryStore::in_memory` |
 //! | keep them in a file, or in two alternately | `FileStore::open_file`, `FileStore::open_pair` |
+//! | make many changes per sync | `BufferedStore::open_file`, `BufferedStore::open_pair`, and `sync` |
 //! | put, move, find, remove and ask | the calls of the store: `put`, `report`, `find`, `within`, `nearest`, .. |
 //! | make many changes in one step | `apply`, with a `Batch` |
 //! | see what it has, and how much more it takes | `len`, `count`, `room`, `status`, `world_at` |
@@ -28,6 +29,7 @@
 #![tactic(auto)]
 
 mod batches;
+mod buffered_store;
 mod file_store;
 mod label;
 mod lending;
@@ -38,11 +40,13 @@ mod no_drive;
 mod object_store;
 mod pool;
 mod session;
+mod syncing;
 mod team;
 mod verbs;
 
 pub use book_lock::Pass;
 pub use browse_query::Browse;
+pub use buffered_store::BufferedStore;
 pub use commit_book::Book;
 pub use commit_book::BookFault;
 pub use commit_book::Room;
@@ -119,8 +123,11 @@ pub use store_client::Service;
 pub use store_client::Work;
 pub use store_client::Worker;
 pub use store_client::at_once;
+pub use store_file::AtSync;
 pub use store_file::ClosedStore;
 pub use store_file::EitherCause;
+pub use store_file::EndCause;
+pub use store_file::EndedRotation;
 pub use store_file::LEAST_BUCKET;
 pub use store_file::MOST_BUCKET;
 pub use store_file::NotEither;
@@ -132,11 +139,18 @@ pub use store_file::OpenedStore;
 pub use store_file::OverFile;
 pub use store_file::RotateCause;
 pub use store_file::Rotated;
+pub use store_file::SyncCause;
+pub use store_file::Unsynced;
 pub use store_file::Which;
+pub use store_file::close_at_sync;
 pub use store_file::close_store;
+pub use store_file::let_wait;
+pub use store_file::open_at_sync;
 pub use store_file::open_either;
+pub use store_file::open_either_at_sync;
 pub use store_file::open_store;
 pub use store_file::rotate_anew;
+pub use store_file::rotate_at_sync;
 pub use store_file::rotate_store;
 pub use zorder::Memory;
 pub use zorder::Name;

@@ -64,7 +64,7 @@ use std::process::ExitCode;
 use std::rt::{Clock, Env};
 use std::sync::Wait;
 use std::thread::Threads;
-use store_file::{OpenedEither, open_either};
+use store_file::{OpenedEither, OverFile, open_either};
 use trouble::Trouble;
 use turns::turn_over_files;
 
@@ -153,7 +153,7 @@ fn open_files<'n, D: LogDisk>(
     one: &'n str,
     second: D,
     two: &'n str,
-) -> Result<OpenedEither<KdTrie, D>, Trouble>
+) -> Result<OpenedEither<KdTrie, D, OverFile>, Trouble>
     ensures { IfOk result (λ o. IsWhole o.store o.pass) }
 {
     let opened = open_either::<KdTrie, D>(alloc, first, one, second, two, BUCKET);

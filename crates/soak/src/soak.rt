@@ -209,7 +209,7 @@ pub fn rotate_and_tell<I: Index, D: LogDisk, R: Wait + Clock + Print>(
     pass: SoakPass<I, D, OverFile>,
     spare: D,
     leaves: Leaves,
-) -> Result<Rotated<I, D>, Trouble>
+) -> Result<Rotated<I, D, OverFile>, Trouble>
     requires { IsWhole store pass }
     ensures { IfOk result (λ r. IsWhole r.store r.pass) }
 {
@@ -227,7 +227,7 @@ pub fn rotate<I: Index, D: LogDisk, R: Wait>(
     pass: SoakPass<I, D, OverFile>,
     spare: D,
     leaves: Leaves,
-) -> Result<Rotated<I, D>, Trouble>
+) -> Result<Rotated<I, D, OverFile>, Trouble>
     requires { IsWhole store pass }
     ensures { IfOk result (λ r. IsWhole r.store r.pass) }
 {
@@ -249,7 +249,7 @@ pub fn rotate<I: Index, D: LogDisk, R: Wait>(
             Err(Trouble::NotRotated(cause))
         }
         Err(NotRotated::Unsure { disk: _, spare: _ }) => Err(Trouble::SpareFailed),
-        Err(NotRotated::Uncleared { book: _, old: _ }) => Err(Trouble::NotEmptied),
+        Err(NotRotated::Uncleared { book: _, disk: _ }) => Err(Trouble::NotEmptied),
         Err(NotRotated::Memory { book: _, spare: _ }) => Err(Trouble::NoLock),
     }
 }

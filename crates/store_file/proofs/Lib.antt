@@ -4,6 +4,8 @@ mod Latest
 mod StoreFacts
 mod Results
 mod RotateFacts
+mod WaitingFacts
+mod EndedFacts
 pub mod Again
 pub mod Between
 pub mod Fewest

@@ -1,5 +1,5 @@
 -- A store that continues over a second file.
-use Rattle.std.proofs.Common.{◌≡◌, ◌∙◌, ℕ, ◌≤◌, true, false, Bool, List, [], length, Option, Some, None, is_some, refl, sym, ap, subst}
+use Rattle.std.proofs.Common.{◌≡◌, ◌∙◌, ℕ, ◌≤◌, false, Bool, List, [], length, Option, Some, None, is_some, refl, sym, ap, subst}
 use Rattle.std.specs.Prelude.{⊤}
 use Rattle.std.specs.Option.{option_map}
 use mathlib.Core.Bool.{true≢false}
@@ -28,6 +28,7 @@ use Rattle.kept_log.specs.Kept.{IsOpened, found_state}
 use Rattle.book_lock.specs.Pass.{Known}
 use Rattle.book_lock.specs.declared.origin.Origin.{Origin}
 use Rattle.commit_book.specs.BookView.{BookView, first_log}
+use Rattle.commit_book.specs.IsBook.{IsBook}
 use Rattle.commit_book.specs.Rotation.{HasContent, HasContentAnew, rotated}
 use Rattle.sessions.specs.Shared.{HasWorld, StartsAs, origin_of, start_of}
 use Rattle.log_compact.specs.Compacting.{IsCompacted, KeepsOnWay}
@@ -174,8 +175,27 @@ comes-back {I = I} {D = D} {P = P} drive w Are old now spare left (none_begun.Re
 comes-back {I = I} {D = D} {P = P} drive w Are old now spare left none_begun.Unsure e same not is =
     subst (λ (x : NotRotated I D P). IsNotRotated drive w Are old spare x) (sym is.1) (subst (λ (k : Known). ClosesStore drive w (λ start. ⊤) k is.0) same is.2, not)
 
+-- The book of a store that was closed with this pass. Its log has all that the pass has seen.
+pub record IsEnded {D : Type 0} (drive : D → Drive) (w : ℕ) (pass : Known) (b : BookView D) : Type 0 where
+  pub book : IsBook drive w b
+  pub value : (b.entries ≡ pass.seen) × (origin_of drive b ≡ pass.origin)
+  pub has : HasWorld b
+  pub ends : (last : D) → disk_in b.log ≡ Some last → (closed : ClosesStore drive w (λ start. ⊤) pass last) × (closed.log.cells ≡ written_in b.log)
+
+-- So it is if the log gets each record at once.
+pub is-ended : {D : Type 0} (drive : D → Drive) (w : ℕ) (b : BookView D) (old pass : Known) → pass ≡ old → IsClosedBook drive w pass b → IsEnded drive w old b
+is-ended drive w b old pass same is =
+    subst (λ (k : Known). IsEnded drive w k b) same
+    (record {
+      book = is.book;
+      value = is.value;
+      has = is.has;
+      ends = λ last last_is. stores.any-counted drive w _ pass last (written_in b.log)
+          (stores.closes-counted drive w ⊥ (λ start waits. waits ≡ false) b pass last is.book is.value is.own (λ none. none) (λ start waits is. is) is.starts last_is);
+    })
+
 -- A fresh log of a store was begun, and the store was closed.
-module _ {D : Type 0} (drive : D → Drive) (w : ℕ) (b : BookView D) (old : Known) (closed : IsClosedBook drive w old b) where
+module _ {D : Type 0} (drive : D → Drive) (w : ℕ) (b : BookView D) (old : Known) (closed : IsEnded drive w old b) where
   opening-is : b.opening ≡ start_of old.origin
   opening-is = (λ i. record { world = b.opening.world; leaves = b.opening.leaves; splits = closed.book.opening.rests i; begun = b.opening.begun }) ∙ ap start_of closed.value.1
 
@@ -191,7 +211,18 @@ module _ {D : Type 0} (drive : D → Drive) (w : ℕ) (b : BookView D) (old : Kn
   kept-as : b.kept ≡ old.origin.kept
   kept-as = ap (λ (o : Origin). o.kept) closed.value.1
 
+  -- No log was begun on the second drive, because of what the book has.
+  pub not-begun : (spare left : D) (c : BeginCause)
+      → NotBegins drive w (λ leaves. leaves ≡ (state_after w b.opening b.entries).leaves) None (world_after b.opening.world b.entries) spare left c
+      → NotBegins drive w (λ leaves. leaves ≡ leaves_left w old.origin old.seen) None (world_left old.origin old.seen) spare left c
+  not-begun spare left c on =
+      subst (λ (l : World). NotBegins drive w (λ leaves. leaves ≡ leaves_left w old.origin old.seen) None l spare left c) world-as
+      (subst (λ (l : List (List Bool)). NotBegins drive w (λ leaves. leaves ≡ l) None (world_after b.opening.world b.entries) spare left c) leaves-as on)
+
   module _ (spare start : D) (seen : Seen) (log : LogView D) where
+    pub begins-left : failed_cell old.seen ≡ None → BeginsFresh drive w spare seen start log → HasContent w b seen → BeginsLeft drive w old spare seen start log
+    begins-left good begun content = record { good = good; world = content.world ∙ world-as; leaves_are = content.leaves ∙ leaves-as; begins = begun }
+
     -- The log has the content of the book.
     pub content-left : BeginsLeft drive w old spare seen start log → HasContent w b seen
     content-left on = record { world = on.world ∙ sym world-as; leaves = on.leaves_are ∙ sym leaves-as }
@@ -211,8 +242,7 @@ module _ {D : Type 0} (drive : D → Drive) (w : ℕ) (b : BookView D) (old : Kn
           let leaves : seen.leaves ≡ origin.leaves = sym (ap (λ (o : Origin). o.leaves) from) in
           let cells : fresh_cells w seen.world seen.leaves ≡ cells_left w old.origin old.seen origin.leaves = λ i. fresh_cells w (begun.world i) (leaves i) in
           let finds : Finds w (cells_left w old.origin old.seen origin.leaves) seen = subst (λ (l : List Cell). Finds w l seen) cells begun.begins.finds in
-          let ends = stores.any-counted drive w _ old last (written_in b.log)
-          (stores.closes-counted drive w ⊥ (λ start waits. waits ≡ false) b old last closed.book closed.value closed.own (λ none. none) (λ start waits is. is) closed.starts last_is) in
+          let ends = closed.ends last last_is in
           record {
             closed = ends.0;
             counted = ends.1;

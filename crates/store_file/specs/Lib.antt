@@ -7,6 +7,8 @@ pub mod Closed
 pub mod Again
 pub mod Either
 pub mod Rotated
+pub mod Waiting
+pub mod Ended
 pub use Rattle.recovery.specs.Opening
 pub use Rattle.recovery.specs.Calls
 pub use Rattle.recovery.specs.Faults

@@ -1,6 +1,6 @@
 -- A store that continues over a second file. Its objects were written there as a fresh log, with its leaves or with new
 -- ones.
-use Rattle.std.specs.Prelude.{◌≡◌, ℕ, ◌<◌, ◌≤◌, true, false, Bool, List, [], length, Option, Some, None, is_some, ⊤}
+use Rattle.std.specs.Prelude.{◌≡◌, ℕ, ◌<◌, ◌≤◌, false, Bool, List, [], length, Option, Some, None, ⊤}
 use Rattle.atomic_table.specs.Seated.{TableId}
 use Rattle.cell_format.specs.declared.cell.Cell.{Cell}
 use Rattle.disk_trait.specs.Drive.{Drive}

@@ -10,18 +10,19 @@ ghost use Rattle.store_file.specs.Either.{BeginsEither, BeginsNeither};
 ghost use Rattle.store_file.specs.Files.{OpensFile, CanOpen, ShowsFault};
 ghost use Rattle.store_file.specs.Opened.{BeginsOver, IsFirst};
 ghost use Rattle.store_file.specs.Refused.{is_bucket};
+ghost use Rattle.store_file.specs.Waiting.{IsAtSync, Writes};
 
 use crate::faults::{EitherCause, NotEither, NotOpened, OpenCause};
 use crate::files::open_file;
 use crate::opening::{OpenedStore, is_bucket, store_of};
-use crate::start::OverFile;
+use crate::start::{AtSync, OverFile};
 use book_lock::Pass;
 use disk_trait::LogDisk;
 use index_layer::Index;
 use log_compact::{NotCleared, clear_log};
 use plain_list::World;
 use recovery::{Opened, Seen};
-use sessions::{SharedBook, Store};
+use sessions::{SharedBook, Start, Store};
 use split_log::SplitLog;
 use std::alloc::Global;
 
@@ -33,9 +34,9 @@ pub enum Which {
 }
 
 /// A store that was opened over one of two files, and the pass that has all its parts.
-pub struct OpenedEither<I: Index, D: LogDisk> {
-    pub store: Store<I, D, OverFile>,
-    pub pass: Pass<SharedBook<I, D, OverFile>>,
+pub struct OpenedEither<I: Index, D: LogDisk, O: Start> {
+    pub store: Store<I, D, O>,
+    pub pass: Pass<SharedBook<I, D, O>>,
     /// The number of objects that the store begins with.
     pub points: u64,
     /// The latest moment of any of these objects, or `None` if there are none.
@@ -55,8 +56,8 @@ struct Both<D: LogDisk> {
 }
 
 // A store over one log, and the drive of the other log.
-struct Taken<I: Index, D: LogDisk> {
-    opened: OpenedStore<I, D, OverFile>,
+struct Taken<I: Index, D: LogDisk, O: Start> {
+    opened: OpenedStore<I, D, O>,
     spare: D,
 }
 
@@ -84,9 +85,75 @@ pub fn open_either<I: Index, D: LogDisk>(
     second: D,
     second_file: &str,
     bucket: u32,
-) -> Result<OpenedEither<I, D>, NotEither<D>>
+) -> Result<OpenedEither<I, D, OverFile>, NotEither<D>>
     ensures opened { IfOk result (λ o. OpensEither D.drive I.WIDTH bucket first_file.now second_file.now first second
         o.which o.store o.pass o.points o.latest o.records o.spare) }
+    ensures first { IfOk result (λ o. IsFirst o.store o.pass) }
+    ensures refused { IfErr result (λ e. RefusesEither D.drive I.WIDTH bucket first_file.now second_file.now first second
+        e.first e.second e.cause) }
+    ensures bucket { is_bucket bucket ≡ false → IsErrAnd result (λ e. e.cause ≡ EitherCause.Bucket) }
+    ensures one_file { is_bucket bucket ≡ true → first_file.now ≡ second_file.now → IsErrAnd result (λ e. e.cause ≡ EitherCause.OneFile) }
+    ensures exact_first { (fault : OpenFault) → is_bucket bucket ≡ true → first_file.now ≢ second_file.now
+        → ShowsFault I.WIDTH (D.drive first) fault
+        → IsErrAnd result (λ e. (e.cause ≡ EitherCause.First (OpenCause.Log fault))
+        ⊎ IsFreeEither (D.drive first) (D.drive second) (D.drive e.first) (D.drive e.second) e.cause) }
+    ensures exact_second { (fault : OpenFault) → is_bucket bucket ≡ true → first_file.now ≢ second_file.now
+        → CanOpen I.WIDTH (D.drive first) → ShowsFault I.WIDTH (D.drive second) fault
+        → IsErrAnd result (λ e. (e.cause ≡ EitherCause.Second (OpenCause.Log fault))
+        ⊎ IsFreeEither (D.drive first) (D.drive second) (D.drive e.first) (D.drive e.second) e.cause) }
+    ensures whole { is_bucket bucket ≡ true → first_file.now ≢ second_file.now
+        → CanOpen I.WIDTH (D.drive first) → CanOpen I.WIDTH (D.drive second)
+        → IfErr result (λ e. (e.cause ≡ EitherCause.Differ)
+        ⊎ IsFreeEither (D.drive first) (D.drive second) (D.drive e.first) (D.drive e.second) e.cause) }
+{
+    open_either_as::<I, D, OverFile>(alloc, first, first_file, second, second_file, bucket, false)
+}
+
+/// The same, but the records of the store may wait in memory, as after `open_at_sync`.
+pub fn open_either_at_sync<I: Index, D: LogDisk>(
+    alloc: Global,
+    first: D,
+    first_file: &str,
+    second: D,
+    second_file: &str,
+    bucket: u32,
+) -> Result<OpenedEither<I, D, AtSync>, NotEither<D>>
+    ensures opened { IfOk result (λ o. IsAtSync (λ begun. OpensEither D.drive I.WIDTH bucket first_file.now second_file.now
+        first second o.which o.store begun o.points o.latest o.records o.spare) o.pass) }
+    ensures first { IfOk result (λ o. IsFirst o.store o.pass) }
+    ensures refused { IfErr result (λ e. RefusesEither D.drive I.WIDTH bucket first_file.now second_file.now first second
+        e.first e.second e.cause) }
+    ensures bucket { is_bucket bucket ≡ false → IsErrAnd result (λ e. e.cause ≡ EitherCause.Bucket) }
+    ensures one_file { is_bucket bucket ≡ true → first_file.now ≡ second_file.now → IsErrAnd result (λ e. e.cause ≡ EitherCause.OneFile) }
+    ensures exact_first { (fault : OpenFault) → is_bucket bucket ≡ true → first_file.now ≢ second_file.now
+        → ShowsFault I.WIDTH (D.drive first) fault
+        → IsErrAnd result (λ e. (e.cause ≡ EitherCause.First (OpenCause.Log fault))
+        ⊎ IsFreeEither (D.drive first) (D.drive second) (D.drive e.first) (D.drive e.second) e.cause) }
+    ensures exact_second { (fault : OpenFault) → is_bucket bucket ≡ true → first_file.now ≢ second_file.now
+        → CanOpen I.WIDTH (D.drive first) → ShowsFault I.WIDTH (D.drive second) fault
+        → IsErrAnd result (λ e. (e.cause ≡ EitherCause.Second (OpenCause.Log fault))
+        ⊎ IsFreeEither (D.drive first) (D.drive second) (D.drive e.first) (D.drive e.second) e.cause) }
+    ensures whole { is_bucket bucket ≡ true → first_file.now ≢ second_file.now
+        → CanOpen I.WIDTH (D.drive first) → CanOpen I.WIDTH (D.drive second)
+        → IfErr result (λ e. (e.cause ≡ EitherCause.Differ)
+        ⊎ IsFreeEither (D.drive first) (D.drive second) (D.drive e.first) (D.drive e.second) e.cause) }
+{
+    open_either_as::<I, D, AtSync>(alloc, first, first_file, second, second_file, bucket, true)
+}
+
+// Opens a store that writes each record at once, or whose records wait for a sync.
+fn open_either_as<I: Index, D: LogDisk, O: Start>(
+    alloc: Global,
+    first: D,
+    first_file: &str,
+    second: D,
+    second_file: &str,
+    bucket: u32,
+    at_sync: bool,
+) -> Result<OpenedEither<I, D, O>, NotEither<D>>
+    requires start { (start : D) → O.is (D.drive start) at_sync }
+    ensures opened { IfOk result (λ o. Writes at_sync (λ begun. OpensEither D.drive I.WIDTH bucket first_file.now
+        second_file.now first second o.which o.store begun o.points o.latest o.records o.spare) o.pass) }
     ensures first { IfOk result (λ o. IsFirst o.store o.pass) }
     ensures refused { IfErr result (λ e. RefusesEither D.drive I.WIDTH bucket first_file.now second_file.now first second
         e.first e.second e.cause) }
@@ -120,27 +187,30 @@ pub fn open_either<I: Index, D: LogDisk>(
         });
     }
     match open_both(alloc, first, first_file, second, second_file, I::WIDTH) {
-        Ok(both) => go_on_over_either(alloc, both, bucket),
+        Ok(both) => go_on_over_either(alloc, both, bucket, at_sync),
         Err(refused) => Err(refused),
     }
 }
 
 // Continues over one of two logs that were opened.
-fn go_on_over_either<I: Index, D: LogDisk>(
+fn go_on_over_either<I: Index, D: LogDisk, O: Start>(
     alloc: Global,
     both: Both<D>,
     bucket: u32,
-) -> Result<OpenedEither<I, D>, NotEither<D>>
+    at_sync: bool,
+) -> Result<OpenedEither<I, D, O>, NotEither<D>>
+    requires start { (start : D) → O.is (D.drive start) at_sync }
     requires one { IsOpenedLog D.drive I.WIDTH both.one.seen both.one.start.value both.one.log }
     requires two { IsOpenedLog D.drive I.WIDTH both.two.seen both.two.start.value both.two.log }
-    ensures begins { IfOk result (λ o. BeginsEither D.drive bucket both.one.seen both.two.seen both.one.log both.two.log
-        both.one.start.value both.two.start.value o.which o.store o.pass o.points o.latest o.records o.spare) }
+    ensures begins { IfOk result (λ o. Writes at_sync (λ begun. BeginsEither D.drive bucket both.one.seen both.two.seen
+        both.one.log both.two.log both.one.start.value both.two.start.value o.which o.store begun o.points o.latest
+        o.records o.spare) o.pass) }
     ensures refused { IfErr result (λ e. BeginsNeither D.drive both.one.seen both.two.seen both.one.log both.two.log
         e.first e.second e.cause) }
 {
     let Both { one, two } = both;
     match choose(&one.seen, &two.seen) {
-        Some(Which::First) => match go_on_over(alloc, one, two.log, bucket) {
+        Some(Which::First) => match go_on_over(alloc, one, two.log, bucket, at_sync) {
             Ok(taken) => Ok(either_of(taken, Which::First)),
             Err(
                 NotTaken {
@@ -154,7 +224,7 @@ fn go_on_over_either<I: Index, D: LogDisk>(
                 cause,
             }),
         },
-        Some(Which::Second) => match go_on_over(alloc, two, one.log, bucket) {
+        Some(Which::Second) => match go_on_over(alloc, two, one.log, bucket, at_sync) {
             Ok(taken) => Ok(either_of(taken, Which::Second)),
             Err(
                 NotTaken {
@@ -250,16 +320,18 @@ fn is_same_world(one: &World, two: &World) -> bool
 }
 
 // Empties the second log, and begins a store over the first one.
-fn go_on_over<I: Index, D: LogDisk>(
+fn go_on_over<I: Index, D: LogDisk, O: Start>(
     alloc: Global,
     chosen: Opened<D>,
     other: SplitLog<D>,
     bucket: u32,
-) -> Result<Taken<I, D>, NotTaken<D>>
+    at_sync: bool,
+) -> Result<Taken<I, D, O>, NotTaken<D>>
+    requires start { O.is (D.drive chosen.start.value) at_sync }
     requires opened { IsOpenedLog D.drive I.WIDTH chosen.seen chosen.start.value chosen.log }
     requires other { other.failed ≡ None }
-    ensures begins { IfOk result (λ t. BeginsOver D.drive bucket chosen.seen chosen.start.value
-        t.opened.store t.opened.pass t.opened.points t.opened.latest t.opened.records) }
+    ensures begins { IfOk result (λ t. Writes at_sync (λ begun. BeginsOver D.drive bucket chosen.seen chosen.start.value
+        t.opened.store begun t.opened.points t.opened.latest t.opened.records) t.opened.pass) }
     ensures cleared { IfOk result (λ t. Clears other.cells (D.drive other.disk) (D.drive t.spare)
         × KeepsOrClears (D.drive other.disk) (D.drive t.spare)) }
     ensures back { IfErr result (λ e. (e.chosen ≡ chosen.log.disk) × CameOf other.cells e.cause (D.drive other.disk) (D.drive e.other)
@@ -276,7 +348,7 @@ fn go_on_over<I: Index, D: LogDisk>(
             });
         }
     };
-    match store_of(alloc, chosen, bucket) {
+    match store_of(alloc, chosen, bucket, at_sync) {
         Ok(opened) => Ok(Taken { opened, spare }),
         Err(NotOpened { disk, .. }) => Err(NotTaken {
             chosen: disk,
@@ -286,7 +358,10 @@ fn go_on_over<I: Index, D: LogDisk>(
     }
 }
 
-fn either_of<I: Index, D: LogDisk>(taken: Taken<I, D>, which: Which) -> OpenedEither<I, D>
+fn either_of<I: Index, D: LogDisk, O: Start>(
+    taken: Taken<I, D, O>,
+    which: Which,
+) -> OpenedEither<I, D, O>
     ensures store { result.store ≡ taken.opened.store }
     ensures pass { result.pass ≡ taken.opened.pass }
     ensures points { result.points ≡ taken.opened.points }

@@ -15,6 +15,9 @@
 //! - `open_either` opens both files, and continues over the one that has records (`OpensEither`). If a crash during a
 //!   rotation left records in both files, they leave the same objects. So the store begins with the objects that the
 //!   history left, wherever the crash came (`finds-left`, proofs/Between).
+//! - `open_at_sync`, `open_either_at_sync`, `close_at_sync` and `rotate_at_sync` do the same for a store whose records may
+//!   wait in memory for a sync (`IsAtSync`). Such a close writes what waits. If it can't, `ClosesUnsynced` says what the
+//!   file may lack. `let_wait` makes such a store of one that was opened or rotated.
 //!
 //! Not here: the calls of a store (`sessions`), and shorter calls (`store_client`).
 #![tactic(auto)]
@@ -26,12 +29,16 @@ mod files;
 mod objects;
 mod opening;
 mod rotating;
+mod rotating_at_sync;
 mod start;
+mod waiting;
 
 pub use closing::{ClosedStore, close_over, close_store};
-pub use either::{OpenedEither, Which, open_either};
+pub use either::{OpenedEither, Which, open_either, open_either_at_sync};
 pub use faults::{EitherCause, NotEither, NotOpened, OpenCause};
 pub use objects::latest_of;
-pub use opening::{LEAST_BUCKET, MOST_BUCKET, OpenedStore, open_over, open_store};
+pub use opening::{LEAST_BUCKET, MOST_BUCKET, OpenedStore, open_at_sync, open_over, open_store};
 pub use rotating::{NotRotated, RotateCause, Rotated, rotate_anew, rotate_store};
-pub use start::OverFile;
+pub use rotating_at_sync::{EndCause, EndedRotation, rotate_at_sync};
+pub use start::{AtSync, OverFile};
+pub use waiting::{SyncCause, Unsynced, close_at_sync, let_wait};

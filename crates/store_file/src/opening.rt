@@ -9,12 +9,14 @@ ghost use Rattle.sessions.specs.Shared.{StartsAs, origin_of};
 ghost use Rattle.store_file.specs.Files.{ReadiesLog, CanOpen, ShowsFault};
 ghost use Rattle.store_file.specs.Opened.{OpensStore, BeginsOver, IsFirst, first_pass};
 ghost use Rattle.store_file.specs.Refused.{RefusesStore, IsFreeCause, is_bucket};
+ghost use Rattle.store_file.specs.Waiting.{IsAtSync, Writes};
 
 use crate::closing::parts_of;
 use crate::faults::{NotOpened, OpenCause};
 use crate::files::open_file;
 use crate::objects::latest_of;
-use crate::start::OverFile;
+use crate::start::{AtSync, OverFile};
+use crate::waiting::written_at;
 use book_lock::Pass;
 use commit_book::Book;
 use disk_trait::LogDisk;
@@ -41,8 +43,8 @@ pub const LEAST_BUCKET: u32 = 4;
 /// The greatest bucket size, in objects.
 pub const MOST_BUCKET: u32 = 4096;
 
-// A store of a book, and the pass that has all its parts.
-type Shared<I, D, O> = (Store<I, D, O>, Pass<SharedBook<I, D, O>>);
+/// A store of a book, and the pass that has all its parts.
+pub(crate) type Shared<I, D, O> = (Store<I, D, O>, Pass<SharedBook<I, D, O>>);
 
 /// Opens a store over the log in a file. The bucket size is from `LEAST_BUCKET` to `MOST_BUCKET` objects. The file is
 /// created if it doesn't exist, and its log if the file has at most 17 bytes. A crash while a log is created may leave
@@ -85,6 +87,49 @@ pub fn open_over<I: Index, D: LogDisk, O: Start>(
     ensures whole { is_bucket bucket ≡ true → CanOpen I.WIDTH (D.drive disk)
         → IfErr result (λ e. IsFreeCause (D.drive disk) (D.drive e.disk) e.cause) }
 {
+    open_as::<I, D, O>(alloc, disk, file, bucket, false)
+}
+
+/// The same store, but its records may wait in memory until `Store::sync` or the close writes them. So a change is answered
+/// before its record is in the file. If 65,536 records wait, the next change writes all. End it with `close_at_sync`.
+pub fn open_at_sync<I: Index, D: LogDisk>(
+    alloc: Global,
+    disk: D,
+    file: &str,
+    bucket: u32,
+) -> Result<OpenedStore<I, D, AtSync>, NotOpened<D>>
+    ensures opened { IfOk result (λ o. IsAtSync (λ first. OpensStore D.drive I.WIDTH bucket file.now (D.drive disk)
+        o.store first o.points o.latest o.records) o.pass) }
+    ensures first { IfOk result (λ o. IsFirst o.store o.pass) }
+    ensures refused { IfErr result (λ e. RefusesStore D.drive I.WIDTH bucket file.now disk e.disk e.cause) }
+    ensures bucket { is_bucket bucket ≡ false → IsErrAnd result (λ e. e.cause ≡ OpenCause.Bucket) }
+    ensures exact { (fault : OpenFault) → is_bucket bucket ≡ true → ShowsFault I.WIDTH (D.drive disk) fault
+        → IsErrAnd result (λ e. (e.cause ≡ OpenCause.Log fault) ⊎ IsFreeCause (D.drive disk) (D.drive e.disk) e.cause) }
+    ensures whole { is_bucket bucket ≡ true → CanOpen I.WIDTH (D.drive disk)
+        → IfErr result (λ e. IsFreeCause (D.drive disk) (D.drive e.disk) e.cause) }
+{
+    open_as::<I, D, AtSync>(alloc, disk, file, bucket, true)
+}
+
+// Opens a store that writes each record at once, or whose records wait for a sync.
+fn open_as<I: Index, D: LogDisk, O: Start>(
+    alloc: Global,
+    disk: D,
+    file: &str,
+    bucket: u32,
+    at_sync: bool,
+) -> Result<OpenedStore<I, D, O>, NotOpened<D>>
+    requires start { (start : D) → ReadiesLog I.WIDTH file.now (D.drive disk) (D.drive start) → O.is (D.drive start) at_sync }
+    ensures opened { IfOk result (λ o. Writes at_sync (λ first. OpensStore D.drive I.WIDTH bucket file.now (D.drive disk)
+        o.store first o.points o.latest o.records) o.pass) }
+    ensures first { IfOk result (λ o. IsFirst o.store o.pass) }
+    ensures refused { IfErr result (λ e. RefusesStore D.drive I.WIDTH bucket file.now disk e.disk e.cause) }
+    ensures bucket { is_bucket bucket ≡ false → IsErrAnd result (λ e. e.cause ≡ OpenCause.Bucket) }
+    ensures exact { (fault : OpenFault) → is_bucket bucket ≡ true → ShowsFault I.WIDTH (D.drive disk) fault
+        → IsErrAnd result (λ e. (e.cause ≡ OpenCause.Log fault) ⊎ IsFreeCause (D.drive disk) (D.drive e.disk) e.cause) }
+    ensures whole { is_bucket bucket ≡ true → CanOpen I.WIDTH (D.drive disk)
+        → IfErr result (λ e. IsFreeCause (D.drive disk) (D.drive e.disk) e.cause) }
+{
     if !is_bucket(bucket) {
         return Err(NotOpened {
             disk,
@@ -92,7 +137,7 @@ pub fn open_over<I: Index, D: LogDisk, O: Start>(
         });
     }
     match open_file(alloc, disk, file, I::WIDTH) {
-        Ok(opened) => store_of(alloc, opened, bucket),
+        Ok(opened) => store_of(alloc, opened, bucket, at_sync),
         Err(refused) => Err(refused),
     }
 }
@@ -109,11 +154,12 @@ pub(crate) fn store_of<I: Index, D: LogDisk, O: Start>(
     alloc: Global,
     opened: Opened<D>,
     bucket: u32,
+    at_sync: bool,
 ) -> Result<OpenedStore<I, D, O>, NotOpened<D>>
     requires opened { IsOpenedLog D.drive I.WIDTH opened.seen opened.start.value opened.log }
-    requires start { O.is (D.drive opened.start.value) false }
-    ensures begins { IfOk result (λ o. BeginsOver D.drive bucket opened.seen opened.start.value
-        o.store o.pass o.points o.latest o.records) }
+    requires start { O.is (D.drive opened.start.value) at_sync }
+    ensures begins { IfOk result (λ o. Writes at_sync (λ first. BeginsOver D.drive bucket opened.seen opened.start.value
+        o.store first o.points o.latest o.records) o.pass) }
     ensures back { IfErr result (λ e. (e.disk ≡ opened.log.disk) × (e.cause ≡ OpenCause.Memory)) }
 {
     let records = opened.seen.cells;
@@ -123,7 +169,11 @@ pub(crate) fn store_of<I: Index, D: LogDisk, O: Start>(
         Ok(book) => book,
         Err(back) => return Err(out_of_memory(back.log.give_back())),
     };
-    match shared(alloc, book.without_list()) {
+    let book = match written_at(alloc, book.without_list(), at_sync) {
+        Ok(book) => book,
+        Err(disk) => return Err(out_of_memory(disk)),
+    };
+    match shared(alloc, book) {
         Ok((store, pass)) => Ok(OpenedStore {
             store,
             pass,
@@ -153,8 +203,8 @@ pub(crate) fn shared<I: Index, D: LogDisk, O: Start>(
     }
 }
 
-// The drive of a book that has a log.
-fn disk_of<I: Index, D: LogDisk>(book: Book<I, D>) -> D
+/// The drive of a book that has a log.
+pub(crate) fn disk_of<I: Index, D: LogDisk>(book: Book<I, D>) -> D
     requires { is_some book.log ≡ true }
     ensures { disk_in book.log ≡ Some result }
 {

@@ -17,16 +17,16 @@ use disk_trait::LogDisk;
 use index_layer::Index;
 use log_compact::{CompactFault, CompactRefused, NotCleared, begin_log, clear_log, fresh_seen};
 use recovery::Opened;
-use sessions::{SharedBook, Store};
+use sessions::{SharedBook, Start, Store};
 use std::alloc::Global;
 use std::sync::Wait;
 use thiserror::Error;
 
 /// A store that continues over a second file.
-pub struct Rotated<I: Index, D: LogDisk> {
-    pub store: Store<I, D, OverFile>,
+pub struct Rotated<I: Index, D: LogDisk, O: Start> {
+    pub store: Store<I, D, O>,
     /// The pass that has all its parts.
-    pub pass: Pass<SharedBook<I, D, OverFile>>,
+    pub pass: Pass<SharedBook<I, D, O>>,
     /// The drive of the first file. Its log is empty, so it is ready for the next rotation.
     pub spare: D,
 }
@@ -71,7 +71,8 @@ pub enum NotRotated<I: Index, D: LogDisk> {
     /// them. Drop the book, and open both files with `open_either`.
     Uncleared {
         book: Book<I, D>,
-        old: D,
+        /// The drive of the first file.
+        disk: D,
     },
     /// Memory ran out for the new lock. The book continues over the second file, and the first file has an empty log.
     /// `Store::new` begins a store with this book.
@@ -87,18 +88,18 @@ struct Begun<I: Index, D: LogDisk> {
     opened: Opened<D>,
 }
 
-// Why no log was begun on the second drive.
-enum BeginCause {
-    // Nothing was written there.
+/// Why no log was begun on the second drive.
+pub(crate) enum BeginCause {
+    /// Nothing was written there.
     Refused { cause: RotateCause },
-    // The drive failed.
+    /// The drive failed.
     Unsure,
 }
 
-// The second drive, if no log was begun on it.
-struct NotBegun<D: LogDisk> {
-    disk: D,
-    cause: BeginCause,
+/// The second drive, if no log was begun on it.
+pub(crate) struct NotBegun<D: LogDisk> {
+    pub(crate) disk: D,
+    pub(crate) cause: BeginCause,
 }
 
 /// Continues a store over a second file, with an empty history. The second file is the one that is attached to `spare`,
@@ -111,7 +112,7 @@ pub fn rotate_store<I: Index, D: LogDisk, R: Wait>(
     store: Store<I, D, OverFile>,
     pass: Pass<SharedBook<I, D, OverFile>>,
     spare: D,
-) -> Result<Rotated<I, D>, NotRotated<I, D>>
+) -> Result<Rotated<I, D, OverFile>, NotRotated<I, D>>
     requires lock { pass.lock ≡ store }
     requires off { pass.holds ≡ false }
     requires parts { pass.parts ≡ all_parts }
@@ -135,7 +136,7 @@ pub fn rotate_anew<I: Index, D: LogDisk, R: Wait>(
     store: Store<I, D, OverFile>,
     pass: Pass<SharedBook<I, D, OverFile>>,
     spare: D,
-) -> Result<Rotated<I, D>, NotRotated<I, D>>
+) -> Result<Rotated<I, D, OverFile>, NotRotated<I, D>>
     requires lock { pass.lock ≡ store }
     requires off { pass.holds ≡ false }
     requires parts { pass.parts ≡ all_parts }
@@ -200,8 +201,11 @@ fn begin_anew<I: Index, D: LogDisk, R: Wait>(
     }
 }
 
-// Writes objects and leaves as a fresh log on this drive.
-fn begin_with<I: Index, D: LogDisk>(content: Content, spare: D) -> Result<Opened<D>, NotBegun<D>>
+/// Writes objects and leaves as a fresh log on this drive.
+pub(crate) fn begin_with<I: Index, D: LogDisk>(
+    content: Content,
+    spare: D,
+) -> Result<Opened<D>, NotBegun<D>>
     requires comes { ComesBySplits I.WIDTH content.leaves }
     requires world { IsWorld content.world }
     ensures begun { IfOk result (λ o. BeginsFresh D.drive I.WIDTH spare o.seen o.start.value o.log) }
@@ -222,8 +226,8 @@ fn begin_with<I: Index, D: LogDisk>(content: Content, spare: D) -> Result<Opened
     }
 }
 
-// The second drive, to which nothing was written.
-fn refused<D: LogDisk>(disk: D, cause: RotateCause) -> NotBegun<D>
+/// The second drive, to which nothing was written.
+pub(crate) fn refused<D: LogDisk>(disk: D, cause: RotateCause) -> NotBegun<D>
     ensures { result ≡ record { disk = disk; cause = BeginCause.Refused cause } }
 {
     NotBegun {
@@ -300,7 +304,7 @@ fn book_of<I: Index, D: LogDisk>(
 fn finish<I: Index, D: LogDisk>(
     alloc: Global,
     replaced: Replaced<I, D>,
-) -> Result<Rotated<I, D>, NotRotated<I, D>>
+) -> Result<Rotated<I, D, OverFile>, NotRotated<I, D>>
     requires none { replaced.book.entries ≡ [] }
     requires world { IsWorld replaced.book.opening.world }
     requires logged { is_some replaced.book.log ≡ true }
@@ -318,6 +322,6 @@ fn finish<I: Index, D: LogDisk>(
             Ok((store, pass)) => Ok(Rotated { store, pass, spare }),
             Err(book) => Err(NotRotated::Memory { book, spare }),
         },
-        Err(NotCleared { disk }) => Err(NotRotated::Uncleared { book, old: disk }),
+        Err(NotCleared { disk }) => Err(NotRotated::Uncleared { book, disk }),
     }
 }

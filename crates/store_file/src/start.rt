@@ -1,4 +1,4 @@
-//! The fact that each store over a file has.
+//! The facts that stores over files have.
 use sessions::Start;
 
 /// The fact that a store over a file has: its book has a log, to which each record is written at once. No value of this
@@ -11,4 +11,16 @@ impl Start for OverFile {
     ghost unlogged = { ⊥ };
 
     ghost is = { λ drive waits. waits ≡ false };
+}
+
+/// The fact of a store over a file whose records may wait in memory for a sync: its book has a log. No value of this type
+/// is ever created.
+pub struct AtSync;
+
+impl Start for AtSync {
+    ghost use Rattle.std.specs.Prelude.{⊤};
+
+    ghost unlogged = { ⊥ };
+
+    ghost is = { λ drive waits. ⊤ };
 }

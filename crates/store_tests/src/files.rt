@@ -187,7 +187,7 @@ pub(crate) fn open_one<I: Index, D: LogDisk>(
     alloc: Global,
     first: D,
     second: D,
-) -> OpenedEither<I, D>
+) -> OpenedEither<I, D, OverFile>
     ensures first { IsFirst result.store result.pass }
 {
     match open_either::<I, D>(alloc, first, "one.log", second, "two.log", 4) {
@@ -231,7 +231,7 @@ pub(crate) fn rotate<I: Index, D: LogDisk, R: Wait>(
     pass: Pass<SharedBook<I, D, OverFile>>,
     spare: D,
     leaves: Leaves,
-) -> Result<Rotated<I, D>, NotRotated<I, D>>
+) -> Result<Rotated<I, D, OverFile>, NotRotated<I, D>>
     requires free { IsFree store pass }
     requires parts { pass.parts ≡ 65536 }
     ensures free { IfOk result (λ r. IsFree r.store r.pass) }
@@ -250,7 +250,7 @@ pub(crate) fn rotated<I: Index, D: LogDisk, R: Wait + Abort>(
     pass: Pass<SharedBook<I, D, OverFile>>,
     spare: D,
     leaves: Leaves,
-) -> Rotated<I, D>
+) -> Rotated<I, D, OverFile>
     requires free { IsFree store pass }
     requires parts { pass.parts ≡ 65536 }
     ensures free { IsFree result.store result.pass }

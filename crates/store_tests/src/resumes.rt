@@ -27,7 +27,7 @@ fn book_left<I: Index, D: LogDisk, R: Wait + Abort>(
     let (store, pass) = filled::<I, D, R>(rt, alloc, disk);
     let store = ObjectStore::from_parts(alloc, store, pass);
     match store.rotate(rt, spare) {
-        Err(NotRotatedStore::Uncleared { book, old: _ }) => book,
+        Err(NotRotatedStore::Uncleared { book, disk: _ }) => book,
         _ => rt.panic("the first file is cleared"),
     }
 }

@@ -241,7 +241,7 @@ fn uncleared<I: Index, D: LogDisk, R: Wait + Abort>(
 ) -> (D, Option<D>) {
     let (store, pass) = filled::<I, D, R>(rt, alloc, disk);
     match rotate(rt, alloc, store, pass, spare, leaves) {
-        Err(NotRotated::Uncleared { book, old }) => (old, book.into_parts().disk),
+        Err(NotRotated::Uncleared { book, disk }) => (disk, book.into_parts().disk),
         _ => rt.panic("the first file is cleared"),
     }
 }

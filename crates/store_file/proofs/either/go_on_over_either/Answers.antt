@@ -1,7 +1,11 @@
-use Rattle.std.proofs.Common.{Some, subst}
+use Rattle.std.proofs.Common.{Some, refl, sym, subst}
+use Rattle.book_lock.specs.Pass.{Known}
 use Rattle.store_file.specs.declared.either.Which.{Which}
 use Rattle.store_file.specs.declared.either.Which.TheVariants as side
-use Rattle.store_file.specs.Either.{Chooses}
+use Rattle.store_file.specs.Either.{BeginsEither, Chooses}
+use Rattle.store_file.specs.Opened.{BeginsOver}
+use Rattle.store_file.specs.Waiting.{Writes}
+use Rattle.store_file.proofs.WaitingFacts.{writes-as}
 use Rattle.store_file.proofs.EitherFacts.{begins-placed, neither-by}
 use Rattle.store_file.proofs.either.go_on_over_either.Goals as goal
 
@@ -10,16 +14,23 @@ returns-in-Ok-clause-begins g c =
     let both = c.args.both in
     let taken = c.in-Ok.taken in
     let ens = c.either_of.ensures in
-    begins-placed g.D.LogDisk.drive c.args.bucket both.one.seen both.two.seen both.one.log both.two.log both.one.start.value both.two.start.value
-    side.First c.either_of.result.which taken.opened.store c.either_of.result.store taken.opened.pass c.either_of.result.pass taken.opened.points c.either_of.result.points
-    taken.opened.latest c.either_of.result.latest taken.opened.records c.either_of.result.records taken.spare c.either_of.result.spare
-    ens.which ens.store ens.pass ens.points ens.latest ens.records ens.spare
+    let r = c.either_of.result in
+    let drive = g.D.LogDisk.drive in
+    let begun = λ (k : Known). BeginsEither drive c.args.bucket both.one.seen both.two.seen both.one.log both.two.log both.one.start.value both.two.start.value r.which r.store k r.points r.latest r.records r.spare in
+    subst (Writes c.args.at_sync begun) (sym ens.pass)
+    (writes-as c.args.at_sync
+    (λ (k : Known). BeginsOver drive c.args.bucket both.one.seen both.one.start.value taken.opened.store k taken.opened.points taken.opened.latest taken.opened.records)
+    begun
+    (λ k is. begins-placed drive c.args.bucket both.one.seen both.two.seen both.one.log both.two.log both.one.start.value both.two.start.value
+    side.First r.which taken.opened.store r.store k k taken.opened.points r.points
+    taken.opened.latest r.latest taken.opened.records r.records taken.spare r.spare
+    ens.which ens.store refl ens.points ens.latest ens.records ens.spare
     (record {
       may = subst (λ (which : Which). Chooses both.one.seen both.two.seen (Some which)) c.in-Some-First.field-0-is c.in-Some-First.ensures;
-      begins = c.in-Ok.ensures.begins;
+      begins = is;
       cleared = c.in-Ok.ensures.cleared.0;
       keeps = c.in-Ok.ensures.cleared.1;
-    })
+    })) taken.opened.pass c.in-Ok.ensures.begins)
 
 pub returns-in-Some-First-clause-refused : goal.returns-in-Some-First-clause-refused
 returns-in-Some-First-clause-refused g c =
@@ -36,13 +47,19 @@ returns-in-Ok-go_on_over-clause-begins g c =
     let taken = c.in-Ok-go_on_over.taken in
     let ens = c.either_of-in-Ok-go_on_over.ensures in
     let r = c.either_of-in-Ok-go_on_over.result in
-    begins-placed g.D.LogDisk.drive c.args.bucket both.one.seen both.two.seen both.one.log both.two.log both.one.start.value both.two.start.value
-    side.Second r.which taken.opened.store r.store taken.opened.pass r.pass taken.opened.points r.points
+    let drive = g.D.LogDisk.drive in
+    let begun = λ (k : Known). BeginsEither drive c.args.bucket both.one.seen both.two.seen both.one.log both.two.log both.one.start.value both.two.start.value r.which r.store k r.points r.latest r.records r.spare in
+    subst (Writes c.args.at_sync begun) (sym ens.pass)
+    (writes-as c.args.at_sync
+    (λ (k : Known). BeginsOver drive c.args.bucket both.two.seen both.two.start.value taken.opened.store k taken.opened.points taken.opened.latest taken.opened.records)
+    begun
+    (λ k is. begins-placed drive c.args.bucket both.one.seen both.two.seen both.one.log both.two.log both.one.start.value both.two.start.value
+    side.Second r.which taken.opened.store r.store k k taken.opened.points r.points
     taken.opened.latest r.latest taken.opened.records r.records taken.spare r.spare
-    ens.which ens.store ens.pass ens.points ens.latest ens.records ens.spare
+    ens.which ens.store refl ens.points ens.latest ens.records ens.spare
     (record {
       may = subst (λ (which : Which). Chooses both.one.seen both.two.seen (Some which)) c.in-Some-Second.field-0-is c.in-Some-Second.ensures;
-      begins = c.in-Ok-go_on_over.ensures.begins;
+      begins = is;
       cleared = c.in-Ok-go_on_over.ensures.cleared.0;
       keeps = c.in-Ok-go_on_over.ensures.cleared.1;
-    })
+    })) taken.opened.pass c.in-Ok-go_on_over.ensures.begins)

@@ -1,8 +1,7 @@
-use Rattle.std.proofs.Common.{refl, subst}
-use Rattle.book_lock.specs.Pass.{Known}
-use Rattle.store_file.specs.Rotated.{AreAnew, IsClosedBook}
+use Rattle.std.proofs.Common.{refl}
+use Rattle.store_file.specs.Rotated.{AreAnew}
 use Rattle.store_file.proofs.Results.{ok-with, err-with}
-use Rattle.store_file.proofs.RotateFacts.{comes-back, content-anew, is-rotated, not-rotated, goes-on, goes-not, starts-over}
+use Rattle.store_file.proofs.RotateFacts.{comes-back, content-anew, is-rotated, not-rotated, goes-on, goes-not, is-ended, starts-over}
 use Rattle.store_file.proofs.rotating.rotate_anew.Goals as goal
 
 pub rotate_anew-requires-clause-content : goal.rotate_anew-requires-clause-content
@@ -12,7 +11,7 @@ rotate_anew-requires-clause-content g c =
     let opened = c.in-Ok.field-0.opened in
     let leaves = g.I.Index.leaves c.in-Ok.field-0.index in
     let b = c.book_of.result in
-    let closed = subst (λ (k : Known). IsClosedBook drive w k b) c.begin_anew.ensures.same c.book_of.ensures in
+    let closed = is-ended drive w b c.args.pass c.begin_anew.new.pass c.begin_anew.ensures.same c.book_of.ensures in
     content-anew drive w b c.args.pass closed c.args.spare opened.start.value opened.seen opened.log leaves c.in-Ok.ensures.begun
 
 pub finish-requires-clause-starts : goal.finish-requires-clause-starts
@@ -27,7 +26,7 @@ returns-in-Ok-clause-rotated g c =
     let begun = c.in-Ok.ensures.begun in
     let b = c.book_of.result in
     let by = c.rotate_anew.ensures in
-    let closed = subst (λ (k : Known). IsClosedBook drive w k b) c.begin_anew.ensures.same c.book_of.ensures in
+    let closed = is-ended drive w b c.args.pass c.begin_anew.new.pass c.begin_anew.ensures.same c.book_of.ensures in
     let content = content-anew drive w b c.args.pass closed c.args.spare opened.start.value opened.seen opened.log leaves begun in
     ok-with _ _
     (λ r on. is-rotated drive w b c.args.pass closed c.args.spare opened.start.value opened.seen opened.log (AreAnew w c.args.pass.origin c.args.pass.seen) begun.begins r.store r.pass r.spare
@@ -43,7 +42,7 @@ returns-in-Ok-clause-refused g c =
     let begun = c.in-Ok.ensures.begun in
     let b = c.book_of.result in
     let by = c.rotate_anew.ensures in
-    let closed = subst (λ (k : Known). IsClosedBook drive w k b) c.begin_anew.ensures.same c.book_of.ensures in
+    let closed = is-ended drive w b c.args.pass c.begin_anew.new.pass c.begin_anew.ensures.same c.book_of.ensures in
     let content = content-anew drive w b c.args.pass closed c.args.spare opened.start.value opened.seen opened.log leaves begun in
     err-with _ _
     (λ e on. not-rotated drive w b c.args.pass closed c.args.spare opened.start.value opened.seen opened.log (AreAnew w c.args.pass.origin c.args.pass.seen) begun.begins e

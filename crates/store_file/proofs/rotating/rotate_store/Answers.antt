@@ -1,8 +1,7 @@
-use Rattle.std.proofs.Common.{refl, subst}
-use Rattle.book_lock.specs.Pass.{Known}
-use Rattle.store_file.specs.Rotated.{AreLeft, IsClosedBook}
+use Rattle.std.proofs.Common.{refl}
+use Rattle.store_file.specs.Rotated.{AreLeft}
 use Rattle.store_file.proofs.Results.{ok-with, err-with}
-use Rattle.store_file.proofs.RotateFacts.{comes-back, content-left, is-rotated, not-rotated, goes-on, goes-not, starts-over}
+use Rattle.store_file.proofs.RotateFacts.{comes-back, content-left, is-rotated, not-rotated, goes-on, goes-not, is-ended, starts-over}
 use Rattle.store_file.proofs.rotating.rotate_store.Goals as goal
 
 pub rotate-requires-clause-content : goal.rotate-requires-clause-content
@@ -11,7 +10,7 @@ rotate-requires-clause-content g c =
     let w = g.I.Index.WIDTH in
     let opened = c.in-Ok.opened in
     let b = c.book_of.result in
-    let closed = subst (λ (k : Known). IsClosedBook drive w k b) c.begin_as_is.ensures.same c.book_of.ensures in
+    let closed = is-ended drive w b c.args.pass c.begin_as_is.new.pass c.begin_as_is.ensures.same c.book_of.ensures in
     content-left drive w b c.args.pass closed c.args.spare opened.start.value opened.seen opened.log c.in-Ok.ensures.begun
 
 pub finish-requires-clause-starts : goal.finish-requires-clause-starts
@@ -25,7 +24,7 @@ returns-in-Ok-clause-rotated g c =
     let begun = c.in-Ok.ensures.begun in
     let b = c.book_of.result in
     let by = c.rotate.ensures in
-    let closed = subst (λ (k : Known). IsClosedBook drive w k b) c.begin_as_is.ensures.same c.book_of.ensures in
+    let closed = is-ended drive w b c.args.pass c.begin_as_is.new.pass c.begin_as_is.ensures.same c.book_of.ensures in
     let content = content-left drive w b c.args.pass closed c.args.spare opened.start.value opened.seen opened.log begun in
     ok-with _ _
     (λ r on. is-rotated drive w b c.args.pass closed c.args.spare opened.start.value opened.seen opened.log (AreLeft w c.args.pass.origin c.args.pass.seen) begun r.store r.pass r.spare
@@ -40,7 +39,7 @@ returns-in-Ok-clause-refused g c =
     let begun = c.in-Ok.ensures.begun in
     let b = c.book_of.result in
     let by = c.rotate.ensures in
-    let closed = subst (λ (k : Known). IsClosedBook drive w k b) c.begin_as_is.ensures.same c.book_of.ensures in
+    let closed = is-ended drive w b c.args.pass c.begin_as_is.new.pass c.begin_as_is.ensures.same c.book_of.ensures in
     let content = content-left drive w b c.args.pass closed c.args.spare opened.start.value opened.seen opened.log begun in
     err-with _ _
     (λ e on. not-rotated drive w b c.args.pass closed c.args.spare opened.start.value opened.seen opened.log (AreLeft w c.args.pass.origin c.args.pass.seen) begun e

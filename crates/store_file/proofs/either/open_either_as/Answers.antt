@@ -1,19 +1,13 @@
-use Rattle.std.proofs.Common.{◌≡◌, inr, ◌∙◌, ℕ, true, Result, Ok, Err, sym, subst}
-use Rattle.std.specs.Prelude.{IfOk, IfErr}
-use Rattle.store_file.specs.Either.{RefusesBoth}
+use Rattle.std.proofs.Common.{◌≡◌, inr, ◌∙◌, ℕ, true, sym, subst}
+use Rattle.store_file.specs.Either.{BeginsEither, OpensEither, RefusesBoth}
 use Rattle.store_file.specs.Files.{OpensFile, CanOpen, ShowsFault}
 use Rattle.store_file.specs.Refused.{is_bucket}
 use Rattle.store_file.proofs.EitherFacts.{begins-either, neither-begun, neither-free, refuses-both}
 use Rattle.store_file.proofs.StoreFacts.{opened-log, is-first}
-use Rattle.store_file.proofs.either.open_either.Goals as goal
-
-ok-with : {A B : Type 0} (P Q : A → Type 0) → ((a : A) → P a → Q a) → (r : Result A B) → IfOk r P → IfOk r Q
-ok-with P Q each (Ok a) is = each a is
-ok-with P Q each (Err e) is = tt
-
-err-with : {A B : Type 0} (P Q : B → Type 0) → ((e : B) → P e → Q e) → (r : Result A B) → IfErr r P → IfErr r Q
-err-with P Q each (Ok a) is = tt
-err-with P Q each (Err e) is = each e is
+use Rattle.store_file.proofs.Results.{ok-with, err-with}
+use Rattle.store_file.proofs.WaitingFacts.{writes-as, writes-first}
+use Rattle.book_lock.specs.Pass.{Known}
+use Rattle.store_file.proofs.either.open_either_as.Goals as goal
 
 pub returns-in-Ok-clause-opened : goal.returns-in-Ok-clause-opened
 returns-in-Ok-clause-opened g c =
@@ -25,12 +19,22 @@ returns-in-Ok-clause-opened g c =
     let besides = subst (λ (w : ℕ). OpensFile w c.args.second_file.now (drive c.args.second) (drive two.start.value) (drive two.log.disk) two.seen) c.WIDTH.ensures c.in-Ok.ensures.two in
     let sized : is_bucket c.args.bucket ≡ true = sym c.is_bucket.ensures ∙ c.if-not-is_bucket.false in
     ok-with _ _
-    (λ o is. begins-either drive g.met.D.LogDisk.keeps_laws w c.args.bucket sized c.args.first_file.now c.args.second_file.now c.args.first c.args.second one.start.value two.start.value one.seen two.seen one.log two.log
-    opens besides c.in-Ok.ensures.logs.0 c.in-Ok.ensures.logs.2 o.which o.store o.pass o.points o.latest o.records o.spare is)
+    (λ o begins. writes-as c.args.at_sync
+    (λ (k : Known). BeginsEither drive c.args.bucket one.seen two.seen one.log two.log one.start.value two.start.value o.which o.store k o.points o.latest o.records o.spare)
+    (λ (k : Known). OpensEither drive w c.args.bucket c.args.first_file.now c.args.second_file.now c.args.first c.args.second o.which o.store k o.points o.latest o.records o.spare)
+    (λ k is. begins-either drive g.met.D.LogDisk.keeps_laws w c.args.bucket sized c.args.first_file.now c.args.second_file.now c.args.first c.args.second one.start.value two.start.value one.seen two.seen one.log two.log
+    opens besides c.in-Ok.ensures.logs.0 c.in-Ok.ensures.logs.2 o.which o.store k o.points o.latest o.records o.spare is) o.pass begins)
     c.go_on_over_either.result c.go_on_over_either.ensures.begins
 
 pub returns-in-Ok-clause-first : goal.returns-in-Ok-clause-first
-returns-in-Ok-clause-first g c = ok-with _ _ (λ o is. is-first o.store _ o.pass is.begins.pass_is) c.go_on_over_either.result c.go_on_over_either.ensures.begins
+returns-in-Ok-clause-first g c =
+    let one = c.in-Ok.both.one in
+    let two = c.in-Ok.both.two in
+    ok-with _ _
+    (λ o begins. writes-first c.args.at_sync o.store
+    (λ (k : Known). BeginsEither g.D.LogDisk.drive c.args.bucket one.seen two.seen one.log two.log one.start.value two.start.value o.which o.store k o.points o.latest o.records o.spare)
+    (λ k is. is-first o.store _ k is.begins.pass_is) o.pass begins)
+    c.go_on_over_either.result c.go_on_over_either.ensures.begins
 
 pub returns-in-Ok-clause-refused : goal.returns-in-Ok-clause-refused
 returns-in-Ok-clause-refused g c =

@@ -1,19 +1,14 @@
-use Rattle.std.proofs.Common.{◌≡◌, ◌∙◌, ℕ, true, Result, Ok, Err, sym, subst}
-use Rattle.std.specs.Prelude.{IfOk, IfErr}
+use Rattle.std.proofs.Common.{◌≡◌, ◌∙◌, ℕ, true, sym, subst}
 use Rattle.store_file.specs.declared.faults.OpenCause.TheVariants as cause
 use Rattle.store_file.specs.Files.{OpensFile, ShowsFault}
 use Rattle.store_file.specs.Refused.{RefusesStore, is_bucket}
 use Rattle.store_file.proofs.FileFacts.{memory-refused}
-use Rattle.store_file.proofs.StoreFacts.{opens-store, opened-log, refuses-store}
-use Rattle.store_file.proofs.opening.open_over.Goals as goal
-
-ok-with : {A B : Type 0} (P Q : A → Type 0) → ((a : A) → P a → Q a) → (r : Result A B) → IfOk r P → IfOk r Q
-ok-with P Q each (Ok a) is = each a is
-ok-with P Q each (Err e) is = tt
-
-err-with : {A B : Type 0} (P Q : B → Type 0) → ((e : B) → P e → Q e) → (r : Result A B) → IfErr r P → IfErr r Q
-err-with P Q each (Ok a) is = tt
-err-with P Q each (Err e) is = each e is
+use Rattle.store_file.proofs.Results.{ok-with, err-with}
+use Rattle.store_file.specs.Opened.{BeginsOver, OpensStore}
+use Rattle.store_file.proofs.StoreFacts.{opens-store, opened-log, refuses-store, is-first}
+use Rattle.store_file.proofs.WaitingFacts.{writes-as, writes-first}
+use Rattle.book_lock.specs.Pass.{Known}
+use Rattle.store_file.proofs.opening.open_as.Goals as goal
 
 pub store_of-requires-clause-opened : goal.store_of-requires-clause-opened
 store_of-requires-clause-opened g c =
@@ -24,8 +19,22 @@ pub returns-in-Ok-clause-opened : goal.returns-in-Ok-clause-opened
 returns-in-Ok-clause-opened g c =
     let opened = c.in-Ok.opened in
     let opens = subst (λ (w : ℕ). OpensFile w c.args.file.now (g.D.LogDisk.drive c.args.disk) (g.D.LogDisk.drive c.in-Ok.opened.start.value) (g.D.LogDisk.drive c.in-Ok.opened.log.disk) c.in-Ok.opened.seen) c.WIDTH.ensures c.in-Ok.ensures.opened in
+    let drive = g.D.LogDisk.drive in
+    let w = g.I.Index.WIDTH in
     ok-with _ _
-    (λ o begins. opens-store g.D.LogDisk.drive g.I.Index.WIDTH c.args.bucket c.args.file.now (g.D.LogDisk.drive c.args.disk) opened.start.value (g.D.LogDisk.drive opened.log.disk) opened.seen opens o.store o.pass o.points o.latest o.records begins)
+    (λ o begins. writes-as c.args.at_sync
+    (λ (k : Known). BeginsOver drive c.args.bucket opened.seen opened.start.value o.store k o.points o.latest o.records)
+    (λ (k : Known). OpensStore drive w c.args.bucket c.args.file.now (drive c.args.disk) o.store k o.points o.latest o.records)
+    (λ k is. opens-store drive w c.args.bucket c.args.file.now (drive c.args.disk) opened.start.value (drive opened.log.disk) opened.seen opens o.store k o.points o.latest o.records is) o.pass begins)
+    c.store_of.result c.store_of.ensures.begins
+
+pub returns-in-Ok-clause-first : goal.returns-in-Ok-clause-first
+returns-in-Ok-clause-first g c =
+    let opened = c.in-Ok.opened in
+    ok-with _ _
+    (λ o begins. writes-first c.args.at_sync o.store
+    (λ (k : Known). BeginsOver g.D.LogDisk.drive c.args.bucket opened.seen opened.start.value o.store k o.points o.latest o.records)
+    (λ k is. is-first o.store _ k is.pass_is) o.pass begins)
     c.store_of.result c.store_of.ensures.begins
 
 pub returns-in-Ok-clause-refused : goal.returns-in-Ok-clause-refused
