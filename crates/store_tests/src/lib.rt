@@ -31,6 +31,8 @@ mod batches;
 #[cfg(test)]
 mod batches_again;
 #[cfg(test)]
+mod buffered;
+#[cfg(test)]
 mod checks;
 #[cfg(test)]
 mod clients;

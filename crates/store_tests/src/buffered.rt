@@ -1,0 +1,181 @@
+//! Stores over files whose records wait for a sync.
+ghost use Rattle.pisrakun.specs.Caller.{Keeps};
+
+use crate::logs::{EMPTY, END, HEADER, PUT_1, PUT_2, disk_with, expect_bytes, failing_disk};
+use disk_mem::{DiskCall, Fail, MemDisk};
+use disk_trait::LogDisk;
+use flat_index::FlatIndex;
+use pisrakun::{
+    BookFault, BufferedStore, CallFault, Client, Index, Point, PutReply, Start, SyncCause,
+    Unsynced, Work,
+};
+use std::alloc::Global;
+use std::process::Abort;
+use std::sync::Wait;
+use std::thread::Threads;
+
+const FIRST: Point = Point { x: 3, y: 5 };
+
+const SECOND: Point = Point { x: 4, y: 4 };
+
+// A store over the log on a drive.
+fn store_over<I: Index, D: LogDisk>(
+    rt: &impl Abort,
+    alloc: Global,
+    disk: D,
+) -> BufferedStore<I, D> {
+    let Ok((store, _)) = BufferedStore::<I, D>::open_file(alloc, disk, "a.log", 64) else {
+        rt.panic("no store is opened")
+    };
+    store
+}
+
+// The drive of a store that was closed, and why its file may lack records.
+fn ended<D: LogDisk>(closed: Result<D, Unsynced<D>>) -> (Option<SyncCause>, D) {
+    match closed {
+        Ok(disk) => (None, disk),
+        Err(Unsynced { disk, cause }) => (Some(cause), disk),
+    }
+}
+
+// Two puts and the close of a store.
+fn put_two_and_close<I: Index, D: LogDisk, R: Wait + Abort>(
+    rt: &R,
+    alloc: Global,
+    disk: D,
+) -> (Option<SyncCause>, D) {
+    let mut store = store_over::<I, D>(rt, alloc, disk);
+    let _ = store.put(rt, 1, FIRST, 10);
+    let _ = store.put(rt, 2, SECOND, 20);
+    ended(store.close())
+}
+
+#[test]
+fn a_close_writes_what_waits(rt: HostRuntime) {
+    let disk = disk_with(&rt, rt.alloc(), EMPTY);
+    let (cause, disk) = put_two_and_close::<FlatIndex, MemDisk, _>(&rt, rt.alloc(), disk);
+    assert_same!(rt; cause, None);
+    expect_bytes(&rt, rt.alloc(), &disk, &[HEADER, PUT_1, PUT_2, END]);
+}
+
+// The opening writes an empty log anew, so the second write is that of the close.
+const WRITE_FAILS: &[Fail] = &[Fail {
+    call: DiskCall::Write,
+    number: 2,
+}];
+
+#[test]
+fn a_close_that_fails_says_which_record_may_be_missing(rt: HostRuntime) {
+    let disk = failing_disk(&rt, rt.alloc(), EMPTY, WRITE_FAILS);
+    let (cause, disk) = put_two_and_close::<FlatIndex, MemDisk, _>(&rt, rt.alloc(), disk);
+    assert_same!(rt; cause, Some(SyncCause::Disk { cell: 0 }));
+    expect_bytes(&rt, rt.alloc(), &disk, EMPTY);
+}
+
+// What a sync and a put after it return, why the file may lack records after the close, and the drive.
+type Told<D> = (
+    Result<u64, BookFault>,
+    Result<PutReply, CallFault>,
+    Option<SyncCause>,
+    D,
+);
+
+// A put, a sync, a put and the close of a store.
+fn put_sync_put<I: Index, D: LogDisk, R: Wait + Abort>(rt: &R, alloc: Global, disk: D) -> Told<D> {
+    let mut store = store_over::<I, D>(rt, alloc, disk);
+    let _ = store.put(rt, 1, FIRST, 10);
+    let synced = store.sync(rt);
+    let second = store.put(rt, 2, SECOND, 20);
+    let (cause, disk) = ended(store.close());
+    (synced, second, cause, disk)
+}
+
+// The sync writes its record, and then sets the commit byte. The next write is that of the close.
+const LATER_WRITE_FAILS: &[Fail] = &[Fail {
+    call: DiskCall::Write,
+    number: 4,
+}];
+
+#[test]
+fn what_a_sync_has_written_stays_when_a_later_write_fails(rt: HostRuntime) {
+    let disk = failing_disk(&rt, rt.alloc(), EMPTY, LATER_WRITE_FAILS);
+    let told = put_sync_put::<FlatIndex, MemDisk, _>(&rt, rt.alloc(), disk);
+    let (synced, second, cause, disk) = told;
+    assert_same!(rt; (synced, second), (Ok(1), Ok(PutReply::Done)));
+    assert_same!(rt; cause, Some(SyncCause::Disk { cell: 1 }));
+    expect_bytes(&rt, rt.alloc(), &disk, &[HEADER, PUT_1, END]);
+}
+
+// One of a team: puts an object of its own, or syncs.
+#[derive(Clone, Copy)]
+struct Member {
+    id: Option<u64>,
+    synced: Option<u64>,
+}
+
+impl<R: Wait> Work<R> for Member {
+    fn work<I: Index, D: LogDisk, O: Start>(&mut self, rt: &R, client: &mut Client<'_, I, D, O>)
+        ensures client { Keeps client.old client.new }
+    {
+        match self.id {
+            Some(id) => {
+                let _ = client.put(rt, id, FIRST, id);
+            }
+            None => self.synced = client.sync(rt).ok(),
+        }
+    }
+}
+
+// Eight of a team, the first with this object.
+fn eight(rt: &impl Abort, alloc: Global, first: Option<u64>) -> Vec<Member> {
+    let numbers = [0, 1, 2, 3, 4, 5, 6, 7];
+    let members = numbers.map(|number: u64| Member {
+        id: first.map(|id: u64| id.saturating_add(number)),
+        synced: None,
+    });
+    Vec::from_array(alloc, members).expect(rt, "no memory")
+}
+
+// How many of a team were told that all eight calls are in the file.
+fn synced_all(members: &[Member]) -> usize {
+    let members = members.iter();
+    members.filter(|member| member.synced == Some(8)).count()
+}
+
+// Eight threads put an object each, and then eight sync. Returns how many syncs covered all, and the drive.
+fn eight_put_and_sync<I: Index + Send, D: LogDisk + Send, R: Threads + Wait + Sync + Abort>(
+    rt: &R,
+    alloc: Global,
+    disk: D,
+) -> (usize, D) {
+    let mut store = store_over::<I, D>(rt, alloc, disk);
+    let put = store.work_all(rt, 0, eight(rt, alloc, Some(1)));
+    let synced = store.work_all(rt, 8, eight(rt, alloc, None));
+    let covered = match (put, synced) {
+        (Ok(_), Ok(members)) => synced_all(members.as_slice()),
+        _ => 0,
+    };
+    (covered, ended(store.close()).1)
+}
+
+// How many device calls an opening and a close make without a change between.
+fn calls_of_nothing(rt: &impl Abort, alloc: Global) -> u64 {
+    let disk = disk_with(rt, alloc, EMPTY);
+    let store = store_over::<FlatIndex, MemDisk>(rt, alloc, disk);
+    let (_, disk) = ended(store.close());
+    disk.moments()
+}
+
+// An append writes its records, syncs, sets the first commit byte and syncs, however many records there are.
+const CALLS_OF_AN_APPEND: u64 = 4;
+
+#[test]
+fn eight_threads_that_sync_share_one_append(rt: HostRuntime) {
+    let alloc = rt.alloc();
+    let disk = disk_with(&rt, alloc, EMPTY);
+    let (covered, disk) = eight_put_and_sync::<FlatIndex, MemDisk, _>(&rt, alloc, disk);
+    assert_same!(rt; covered, 8);
+    let nothing = calls_of_nothing(&rt, alloc);
+    assert_same!(rt; disk.moments(), nothing + CALLS_OF_AN_APPEND);
+    assert_same!(rt; disk.bytes().len(), 17 + 8 * 32);
+}
