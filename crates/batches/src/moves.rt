@@ -5,7 +5,9 @@ use crate::plan::Plan;
 use crate::trouble::Trouble;
 use pisrakun::{Answer, Batch, Client, Index, LogDisk, NotAdded, Start, Work};
 use std::alloc::Global;
+use std::rt::Clock;
 use std::sync::Wait;
+use std::time::Instant;
 
 /// A thread that moves objects of its own.
 #[derive(Drop)]
@@ -68,7 +70,16 @@ impl Mover {
         Ok(())
     }
 
-    fn move_all<I: Index, D: LogDisk, O: Start, R: Wait>(
+    // Whether this thread is to sync now. The others leave it to the first.
+    fn is_due(&self, rt: &impl Clock, last: Option<Instant>) -> bool {
+        let waited = last.and_then(|last| last.elapsed(rt).ok());
+        match (self.plan.pause, waited) {
+            (Some(pause), Some(waited)) => self.thread == 0 && pause <= waited,
+            _ => false,
+        }
+    }
+
+    fn move_all<I: Index, D: LogDisk, O: Start, R: Wait + Clock>(
         &mut self,
         rt: &R,
         client: &mut Client<'_, I, D, O>,
@@ -76,15 +87,20 @@ impl Mover {
         ensures { Keeps client.old client.new }
     {
         let mut batch = Batch::new(self.alloc);
+        let mut synced = Instant::now(rt).ok();
         for number in 0..self.plan.batches {
             let first = number.saturating_mul(self.plan.size);
             self.step(rt, client, &mut batch, first)?;
+            if self.is_due(rt, synced) {
+                client.sync(rt)?;
+                synced = Instant::now(rt).ok();
+            }
         }
         Ok(())
     }
 }
 
-impl<R: Wait> Work<R> for Mover {
+impl<R: Wait + Clock> Work<R> for Mover {
     fn work<I: Index, D: LogDisk, O: Start>(&mut self, rt: &R, client: &mut Client<'_, I, D, O>)
         ensures client { Keeps client.old client.new }
     {

@@ -1,6 +1,7 @@
 //! The plan of a measurement: which moves are made.
 use pisrakun::Point;
 use std::env::Args;
+use std::time::Duration;
 
 // Objects are taken in an order that is spread over all of them.
 const STRIDE: u64 = 40_503;
@@ -14,6 +15,8 @@ pub struct Plan {
     pub size: u64,
     /// How many batches each thread makes.
     pub batches: u64,
+    /// How long records wait for a sync, if they wait.
+    pub pause: Option<Duration>,
 }
 
 /// A move: which object, to which point, at which moment.
@@ -31,6 +34,11 @@ fn number(word: Option<String>, most: u64) -> u64 {
     }
 }
 
+// A time in milliseconds, a minute at most.
+fn millis(word: String) -> Duration {
+    Duration::from_millis(number(Some(word), 60_000))
+}
+
 impl Plan {
     /// A plan that is done in some milliseconds.
     pub fn small() -> Plan {
@@ -39,19 +47,22 @@ impl Plan {
             threads: 2,
             size: 16,
             batches: 32,
+            pause: None,
         }
     }
 
-    /// The plan of the words `SIZE THREADS CHANGES`.
+    /// The plan of the words `SIZE THREADS CHANGES [MILLIS]`.
     pub fn of_words(words: &mut Args) -> Plan {
         let size = number(words.next(), 65_536);
         let threads = number(words.next(), 16).min(16) as u8;
         let changes = number(words.next(), 4_000_000);
+        let pause = words.next().map(|word| millis(word));
         Plan {
             objects: 65_536,
             threads,
             size,
             batches: changes / u64::from(threads).max(1) / size.max(1),
+            pause,
         }
     }
 

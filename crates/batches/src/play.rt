@@ -74,7 +74,7 @@ fn right_of(movers: Vec<Mover>) -> Result<u64, Trouble> {
     Ok(right)
 }
 
-/// Puts the objects of a plan, and then lets all threads move them. Only the moves are timed.
+/// Puts the objects of a plan, and then lets all threads move them. Only the moves and their syncs are timed.
 pub fn play<
     I: Index + Send,
     D: LogDisk + Send,
@@ -82,6 +82,7 @@ pub fn play<
     R: Threads + Wait + Sync + AllocGlobal + Clock,
 >(rt: &R, store: &mut ObjectStore<I, D, O>, plan: Plan) -> Result<Moved, Trouble> {
     put_all(rt, store, plan)?;
+    store.sync(rt)?;
     let Some(movers) = movers(rt.alloc(), plan) else {
         return Err(Trouble::Memory);
     };
@@ -89,6 +90,7 @@ pub fn play<
     let Ok(movers) = store.work_all(rt, 1, movers) else {
         return Err(Trouble::Memory);
     };
+    store.sync(rt)?;
     let nanos = nanos_since(rt, begun);
     let changes = plan
         .batches

@@ -1,5 +1,5 @@
 //! What ends a run early.
-use pisrakun::{CallFault, NotAdded, NotInMemory, OpenCause};
+use pisrakun::{BookFault, CallFault, NotAdded, NotInMemory, OpenCause, SyncCause};
 use std::alloc::AllocError;
 use std::io;
 use thiserror::Error;
@@ -15,12 +15,22 @@ pub enum Trouble {
     InUse,
     #[error("a call was refused: {0}")]
     Refused(#[from] CallFault),
+    #[error("a sync was refused")]
+    NotSynced(BookFault),
+    #[error("not all records are in the file: {0}")]
+    Unsynced(SyncCause),
     #[error("a batch was refused: {0}")]
     NotAdded(#[from] NotAdded),
     #[error("no store was made: {0}")]
     NotInMemory(#[from] NotInMemory),
     #[error("{0}")]
     Output(#[from] io::Error),
+}
+
+impl From<BookFault> for Trouble {
+    fn from(fault: BookFault) -> Trouble {
+        Trouble::NotSynced(fault)
+    }
 }
 
 impl From<AllocError> for Trouble {
