@@ -4,7 +4,8 @@
 Each batch is one synced transaction that moves 1, 16, 256 or 4,096 of 65,536 objects, on a disk and in memory-backed files. One thread or
 eight make the batches. The head of src/batches.cpp describes the work and the peers. Prints a table in Markdown for each place.
 
---batches PROGRAM  this project's program, crates/batches/out/batches; without it the tables don't have its row
+--batches PROGRAM  this project's program, crates/batches/out/batches; without it the tables don't have its rows
+--pause MILLIS     between two syncs of this store's row whose records wait for one (default 10)
 --disk FOLDER      on a disk (default: the system's temporary folder); an empty word leaves this table out
 --memory FOLDER    in memory (default /dev/shm); an empty word leaves this table out
 --sizes N,..       changes of a batch (default 1,16,256,4096)        --threads N,..  powers of two (default 1,8)
@@ -16,7 +17,8 @@ eight make the batches. The head of src/batches.cpp describes the work and the p
 
 PROGRAM takes the words FILE SIZE THREADS CHANGES, creates a store over a log in FILE, and puts the same objects. Then its threads make the
 same changes, CHANGES of all threads together. It prints `changes N nanos T` and `right answers N`. Short runs before the first one
-determine how many changes it makes in about as many seconds as the peers have.
+determine how many changes it makes in about as many seconds as the peers have. A second row is a store whose records wait for a sync, which
+one thread makes every MILLIS (a fifth word). In a third one the store has no log (FILE is `-`).
 
 After each run of RocksDB, LMDB or SQLite, the sum over its objects is compared with the one that Python works out. Runs before the times
 compare all stores, one thread and eight. The objects of PROGRAM are then those in its log, read as docs/FORMATS.md says.
@@ -34,10 +36,11 @@ import sys
 import tempfile
 
 HERE = pathlib.Path(__file__).resolve().parent
-NAMES = {'ours': 'this store', 'rocksdb': 'RocksDB', 'lmdb': 'LMDB', 'sqlite': 'SQLite', 'bare': 'four device calls alone'}
+NAMES = {'ours': 'this store', 'buffered': 'this store, records wait for a sync', 'no-log': 'this store without a log', 'rocksdb': 'RocksDB', 'lmdb': 'LMDB', 'sqlite': 'SQLite', 'bare': 'four device calls alone'}
+OURS = 'ours', 'buffered', 'no-log'  # rows of PROGRAM
 OBJECTS, STRIDE, WORD = 65_536, 40_503, 2**64 - 1
 CHECKED = {16: 98_304, 4_096: 131_072}  # changes of the comparing runs, by size: each object moves at least once
-MOST = 3_500_000  # changes of a run of PROGRAM: a history has at most 4,194,304 entries
+MOST = 3_500_000  # changes of a run of PROGRAM, which takes at most 4,000,000
 SHORT = 0.2  # seconds of a run that determines how many changes PROGRAM makes
 LIMIT = 120  # seconds for one run
 
@@ -109,7 +112,7 @@ class Bench:
         there = asked.batches and shutil.which(asked.batches)
         if asked.batches and not there:
             print(f'no program {asked.batches}', file=sys.stderr)
-        self.peers = ['ours'] * bool(there) + asked.peers.split(',')
+        self.peers = list(OURS) * bool(there) + asked.peers.split(',')
         for peer in self.peers:
             if peer not in NAMES:
                 sys.exit(f'no peer {peer}: {" ".join(NAMES)}')
@@ -119,8 +122,9 @@ class Bench:
         """A run in a new folder. Ends this program if the run leaves wrong objects. `look` reads those of PROGRAM too."""
         with tempfile.TemporaryDirectory(prefix='mdloc-batches-', dir=folder) as home:
             store = pathlib.Path(home) / 'store'
-            if peer == 'ours':
-                run = ran([self.asked.batches, store, size, threads, changes])
+            if peer in OURS:
+                pause = [self.asked.pause] * (peer == 'buffered')
+                run = ran([self.asked.batches, '-' if peer == 'no-log' else store, size, threads, changes] + pause)
                 if look:
                     run = run._replace(made=[changes // threads] * threads, sum=sum_of(objects_in(store)))
             else:
@@ -132,24 +136,24 @@ class Bench:
     def check(self, folder):
         """Ends this program unless all stores leave the same objects."""
         for (size, changes), threads, peer in itertools.product(CHECKED.items(), self.asked.threads, self.peers):
-            if peer != 'bare':
+            if peer not in ('bare', 'no-log'):
                 run = self.run(peer, folder, size, threads, changes, look=True)
                 if self.asked.check:
                     print(f'{NAMES[peer]}, {changes:,} changes, batches of {size:,}, threads {threads}: right objects, sum {run.sum}', flush=True)
 
     def measure(self, peer, folder, size, threads):
-        if peer != 'ours':
+        if peer not in OURS:
             return self.run(peer, folder, size, threads, seconds=self.asked.seconds)
-        case = folder, size, threads
+        case = peer, folder, size, threads
         if case not in self.speeds:
             self.speeds[case] = self.speed(*case)
         return self.run(peer, folder, size, threads, whole(self.speeds[case] * self.asked.seconds, size * threads))
 
-    def speed(self, folder, size, threads):
+    def speed(self, peer, folder, size, threads):
         """About how many changes a second PROGRAM makes. Runs get longer until one takes SHORT."""
         changes, run = whole(0, size * threads), None
         while not run or run.nanos < SHORT * 1e9 and changes < MOST // 2:
-            run = self.run('ours', folder, size, threads, changes)
+            run = self.run(peer, folder, size, threads, changes)
             changes = whole(changes * min(max(1.5 * SHORT * 1e9 / run.nanos, 2), 16), size * threads)
         return run.changes / run.nanos * 1e9
 
@@ -202,6 +206,7 @@ def words():
     words.add_argument('--sizes', type=numbers, default='1,16,256,4096')
     words.add_argument('--threads', type=numbers, default='1,8')
     words.add_argument('--peers', default='rocksdb,lmdb,sqlite,bare')
+    words.add_argument('--pause', type=int, default=10)
     words.add_argument('--seconds', type=float, default=2)
     words.add_argument('--runs', type=int, default=3)
     words.add_argument('--check', action='store_true')
