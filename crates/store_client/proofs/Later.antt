@@ -8,7 +8,10 @@ use Rattle.plain_list.specs.declared.ops.Op.{Op}
 use Rattle.plain_list.specs.declared.ops.Op.TheVariants.{Put, Move}
 use Rattle.plain_list.specs.declared.ops.Answer.{Answer}
 use Rattle.sessions.specs.declared.faults.CallFault.{CallFault}
+use Rattle.commit_book.specs.declared.faults.BookFault.{BookFault}
+use Rattle.sessions.specs.Syncs.{SyncsPass}
 use Rattle.sessions.proofs.StepLemmas.{prefix-later}
+use Rattle.sessions.proofs.SyncLemmas.{sync-same}
 use Rattle.book_lock.specs.Pass.{Known}
 use Rattle.store_client.specs.Caller.{Caller, Keeps}
 use Rattle.store_client.specs.Pools.{IsGuest}
@@ -51,6 +54,9 @@ module _ (w id : ℕ) (at : Point) (moment : ℕ) where
 
   pub report-later : (old new : Caller) (result : Result Report CallFault) → Reports w id at moment old new result → Later old new
   report-later old new result reports = after old reports.mid new (misses-later reports.missed old reports.mid reports.misses) (ends-later reports.mid new result reports.ends)
+
+pub sync-later : (old new : Caller) (result : Result ℕ BookFault) → SyncsPass old.pass new.pass result → Later old new
+sync-later old new result syncs = (sync-same old.pass new.pass result syncs).0
 
 -- a client that makes a call stays a guest
 pub stays-guest : (lender : Known) (old new : Caller) → IsGuest lender old → Keeps old new → Later old new → IsGuest lender new

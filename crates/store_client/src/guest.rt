@@ -6,6 +6,7 @@ ghost use Rattle.plain_list.specs.History.{failed_cell};
 ghost use Rattle.plain_list.specs.World.{IsWorld};
 ghost use Rattle.sessions.specs.Rooms.{room_at};
 ghost use Rattle.sessions.specs.Runs.{HasLooked};
+ghost use Rattle.sessions.specs.Syncs.{SyncsPass, WasDurable};
 ghost use Rattle.sessions.specs.Views.{IsView, IsWorldAt};
 ghost use Rattle.store_client.specs.Asked.{Asked};
 ghost use Rattle.store_client.specs.Batches.{Applies};
@@ -17,7 +18,7 @@ use crate::batch::Batch;
 use crate::batches::Replies;
 use crate::client::Reply;
 use crate::pool::{Desk, Lender};
-use commit_book::Room;
+use commit_book::{BookFault, Room};
 use disk_trait::LogDisk;
 use index_layer::Index;
 use index_view::View;
@@ -151,6 +152,15 @@ impl<'p, 's, I: Index, D: LogDisk, O: Start, L: Lender> Guest<'p, 's, I, D, O, L
         ensures { Applies I.WIDTH batch.now self.old self.new result }
     {
         self.desk.client.apply(rt, batch)
+    }
+
+    /// As `Client::sync`.
+    pub fn sync<R: Wait>(&mut self, rt: &R) -> Result<u64, BookFault>
+        ensures synced { SyncsPass self.old.pass self.new.pass result }
+        ensures durable { IfOk result (λ place. WasDurable D.drive I.WIDTH self.new.pass) }
+        ensures client { self.new ≡ record self.old { pass = self.new.pass } }
+    {
+        self.desk.client.sync(rt)
     }
 
     /// As `Client::room`.
