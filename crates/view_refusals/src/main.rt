@@ -3,7 +3,7 @@
 //! Usage: `view_refusals [views]`.
 //!
 //! Two stores in memory have the same objects, one over a `KdTrie` and one over a `QuadTrie`. A view of each answers five
-//! questions at each of eight points. A plain list of the objects judges each answer. If memory is refused to a browse,
+//! questions at each of ten points. A plain list of the objects judges each answer. If memory is refused to a browse,
 //! the browse continues. If memory is refused to another question, the questions at that point are asked again. The
 //! program prints how many answers were right.
 //!
@@ -137,10 +137,10 @@ fn ask_at<I: Index>(
     Ok(answers.iter().filter(|is_right| **is_right).count())
 }
 
-// How many answers at eight points are right. Where memory is refused, it asks again.
+// How many answers at ten points are right. Where memory is refused, it asks again.
 fn ask<I: Index>(alloc: Global, view: &View<I>, objects: &[Placed]) -> usize {
     let mut right = 0usize;
-    for number in OBJECTS..OBJECTS + 8 {
+    for number in OBJECTS..OBJECTS + 10 {
         let at = point_of(number);
         let answers = match ask_at(alloc, view, objects, at) {
             Err(Memory) => ask_at(alloc, view, objects, at),
