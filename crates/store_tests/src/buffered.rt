@@ -1,13 +1,16 @@
 //! Stores over files whose records wait for a sync.
 ghost use Rattle.pisrakun.specs.Caller.{Keeps};
 
-use crate::logs::{EMPTY, END, HEADER, PUT_1, PUT_2, disk_with, expect_bytes, failing_disk};
+use crate::logs::{
+    EMPTY, END, GONE_ON, HEADER, PUT_1, PUT_2, disk_with, expect_bytes, failing_disk,
+};
 use disk_mem::{DiskCall, Fail, MemDisk};
 use disk_trait::LogDisk;
 use flat_index::FlatIndex;
 use pisrakun::{
-    BookFault, BufferedStore, CallFault, Client, Index, Point, PutReply, Start, SyncCause,
-    Unsynced, Work,
+    BookFault, BufferedStore, CallFault, Client, EndCause, FileStore, Index, Lender, OpenedPair,
+    Point, Pool, PutReply, RotateCause, RotatedStore, Service, Start, SyncCause, Unsynced, Which,
+    Work,
 };
 use std::alloc::Global;
 use std::process::Abort;
@@ -178,4 +181,185 @@ fn eight_threads_that_sync_share_one_append(rt: HostRuntime) {
     let nothing = calls_of_nothing(&rt, alloc);
     assert_same!(rt; disk.moments(), nothing + CALLS_OF_AN_APPEND);
     assert_same!(rt; disk.bytes().len(), 17 + 8 * 32);
+}
+
+// One of a crew that puts an object and syncs, by a client that it takes for both.
+#[derive(Clone, Copy)]
+struct Syncer {
+    id: u64,
+    is_covered: bool,
+}
+
+impl<R: Wait> Service<R> for Syncer {
+    fn serve<I: Index, D: LogDisk, O: Start, L: Lender>(
+        &mut self,
+        rt: &R,
+        pool: &Pool<'_, I, D, O, L>,
+    ) {
+        let mut guest = pool.enter(rt);
+        let _ = guest.put(rt, self.id, FIRST, self.id);
+        let synced = guest.sync(rt);
+        self.is_covered = synced.is_ok_and(|up_to| guest.place() <= up_to);
+    }
+}
+
+// Four that share two clients of a pool. Returns how many were told that their call is in the file, and the drive.
+fn four_share_two<I: Index + Send, D: LogDisk + Send, R: Threads + Wait + Sync + Abort>(
+    rt: &R,
+    alloc: Global,
+    disk: D,
+) -> (usize, D) {
+    let mut store = store_over::<I, D>(rt, alloc, disk);
+    let numbers = [1, 2, 3, 4];
+    let mut crew = numbers.map(|id: u64| Syncer {
+        id,
+        is_covered: false,
+    });
+    let hosted = store.pool(rt, 0, 2, &mut crew);
+    assert_is!(rt; hosted.is_ok());
+    let covered = crew.iter().filter(|syncer| syncer.is_covered).count();
+    (covered, ended(store.close()).1)
+}
+
+#[test]
+fn a_guest_syncs_what_it_has_changed(rt: HostRuntime) {
+    let alloc = rt.alloc();
+    let disk = disk_with(&rt, alloc, EMPTY);
+    let (covered, disk) = four_share_two::<FlatIndex, MemDisk, _>(&rt, alloc, disk);
+    assert_same!(rt; covered, 4);
+    assert_same!(rt; disk.bytes().len(), 17 + 4 * 32);
+}
+
+// A put by a second session, a sync by it, and the continuation over a second file, where another put waits for the
+// close. Returns what the sync says, and both drives.
+fn rotates<I: Index, D: LogDisk, R: Wait + Abort>(
+    rt: &R,
+    alloc: Global,
+    first: D,
+    second: D,
+) -> (Result<u64, BookFault>, D, D) {
+    let mut store = store_over::<I, D>(rt, alloc, first);
+    let mut session = store.session(9);
+    let _ = session.put(rt, 1, FIRST, 10);
+    let synced = session.sync(rt);
+    let _ = store.put(rt, 2, SECOND, 20);
+    let Ok(RotatedStore { mut store, spare }) = store.rotate(second) else {
+        rt.panic("the store isn't rotated")
+    };
+    let _ = store.put(rt, 4, FOURTH, 30);
+    (synced, spare, ended(store.close()).1)
+}
+
+const FOURTH: Point = Point { x: 7, y: 7 };
+
+#[test]
+fn a_store_whose_records_wait_continues_over_a_second_file(rt: HostRuntime) {
+    let alloc = rt.alloc();
+    let first = disk_with(&rt, alloc, EMPTY);
+    let second = disk_with(&rt, alloc, &[]);
+    let (synced, first, second) = rotates::<FlatIndex, MemDisk, _>(&rt, alloc, first, second);
+    assert_same!(rt; synced, Ok(1));
+    expect_bytes(&rt, alloc, &first, EMPTY);
+    expect_bytes(&rt, alloc, &second, GONE_ON);
+}
+
+// The causes with which a rotation ends a store of one put.
+fn why_not_rotated<I: Index, D: LogDisk, R: Wait + Abort>(
+    rt: &R,
+    alloc: Global,
+    first: D,
+    second: D,
+) -> (Option<EndCause>, Option<D>) {
+    let mut store = store_over::<I, D>(rt, alloc, first);
+    let _ = store.put(rt, 1, FIRST, 10);
+    match store.rotate(second) {
+        Ok(RotatedStore { store, spare: _ }) => {
+            let _ = store.close();
+            (None, None)
+        }
+        Err(ended) => (Some(ended.cause), Some(ended.first)),
+    }
+}
+
+#[test]
+fn a_rotation_into_a_file_in_use_has_written_what_waited(rt: HostRuntime) {
+    let alloc = rt.alloc();
+    let first = disk_with(&rt, alloc, EMPTY);
+    let second = disk_with(&rt, alloc, &[HEADER, PUT_2, END]);
+    let (cause, first) = why_not_rotated::<FlatIndex, MemDisk, _>(&rt, alloc, first, second);
+    let in_use = RotateCause::InUse { len: 17 + 32 };
+    assert_same!(rt; cause, Some(EndCause::Refused { cause: in_use }));
+    let first = first.expect(&rt, "no drive");
+    expect_bytes(&rt, alloc, &first, &[HEADER, PUT_1, END]);
+}
+
+#[test]
+fn a_rotation_whose_sync_fails_writes_nothing_to_the_second_file(rt: HostRuntime) {
+    let alloc = rt.alloc();
+    let first = failing_disk(&rt, alloc, EMPTY, WRITE_FAILS);
+    let second = disk_with(&rt, alloc, &[]);
+    let (cause, _) = why_not_rotated::<FlatIndex, MemDisk, _>(&rt, alloc, first, second);
+    let cause = cause.expect(&rt, "the store is rotated");
+    assert_same!(rt; cause, EndCause::Unsynced { cause: SyncCause::Disk { cell: 0 } });
+}
+
+// How many objects a store over two files finds, the first of which has a put, and where it continues.
+fn found_in_pair<I: Index, D: LogDisk, R: Wait + Abort>(
+    rt: &R,
+    alloc: Global,
+    first: D,
+    second: D,
+) -> (u64, Which, Result<u64, BookFault>) {
+    let Ok(opened) = BufferedStore::<I, D>::open_pair(alloc, first, "a.log", second, "b.log", 64)
+    else {
+        rt.panic("no store is opened")
+    };
+    let OpenedPair {
+        mut store,
+        spare: _,
+        which,
+        found,
+    } = opened;
+    let _ = store.put(rt, 2, SECOND, 20);
+    let synced = store.sync(rt);
+    let _ = store.close();
+    (found.objects, which, synced)
+}
+
+#[test]
+fn a_store_whose_records_wait_is_opened_over_either_file(rt: HostRuntime) {
+    let alloc = rt.alloc();
+    let first = disk_with(&rt, alloc, &[HEADER, PUT_1, END]);
+    let second = disk_with(&rt, alloc, &[]);
+    let told = found_in_pair::<FlatIndex, MemDisk, _>(&rt, alloc, first, second);
+    assert_same!(rt; told, (1, Which::First, Ok(1)));
+}
+
+// A put and a sync of a store that writes each record at once. Returns what the sync says, and the drive.
+fn synced_at_once<I: Index, D: LogDisk, R: Wait + Abort>(
+    rt: &R,
+    alloc: Global,
+    disk: D,
+    times: u8,
+) -> (Result<u64, BookFault>, D) {
+    let Ok((mut store, _)) = FileStore::<I, D>::open_file(alloc, disk, "a.log", 64) else {
+        rt.panic("no store is opened")
+    };
+    let _ = store.put(rt, 1, FIRST, 10);
+    let mut synced = Ok(0);
+    for _ in 0..times {
+        synced = store.sync(rt);
+    }
+    (synced, store.close().disk)
+}
+
+#[test]
+fn a_sync_makes_no_device_call_if_nothing_waits(rt: HostRuntime) {
+    let alloc = rt.alloc();
+    let disk = disk_with(&rt, alloc, EMPTY);
+    let (synced, disk) = synced_at_once::<FlatIndex, MemDisk, _>(&rt, alloc, disk, 3);
+    assert_same!(rt; synced, Ok(1));
+    let other = disk_with(&rt, alloc, EMPTY);
+    let (_, other) = synced_at_once::<FlatIndex, MemDisk, _>(&rt, alloc, other, 0);
+    assert_same!(rt; disk.moments(), other.moments());
 }
