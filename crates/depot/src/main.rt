@@ -53,8 +53,10 @@ fn tell_day(rt: &impl Print, number: usize, end: &DayEnd) -> io::Result<()> {
     println!(rt; "day {number}: room for {records} more records")
 }
 
+type Opened<D> = OpenedPair<KdTrie, D, OverFile>;
+
 // The store over the log in one of the files.
-fn open_vans<D: LogDisk>(alloc: Global, first: D, second: D) -> Result<OpenedPair<KdTrie, D, OverFile>> {
+fn open_vans<D: LogDisk>(alloc: Global, first: D, second: D) -> Result<Opened<D>> {
     let opened = FileStore::<KdTrie, D>::open_pair(alloc, first, FIRST, second, SECOND, BUCKET);
     Ok(opened.map_err(|refused| refused.cause)?)
 }
