@@ -8,9 +8,9 @@ use disk_mem::{DiskCall, Fail, MemDisk};
 use disk_trait::LogDisk;
 use flat_index::FlatIndex;
 use pisrakun::{
-    BookFault, BufferedStore, CallFault, Client, EndCause, FileStore, Index, Lender, OpenedPair,
-    Point, Pool, PutReply, RotateCause, RotatedStore, Service, Start, SyncCause, Unsynced, Which,
-    Work,
+    BookFault, BufferedStore, CallFault, Client, EndCause, FileStore, Index, Lender, ObjectStore,
+    OpenedPair, OpenedStore, Point, Pool, PutReply, RotateCause, RotatedStore, Service, Start,
+    SyncCause, Unsynced, Which, Work, let_wait, open_store,
 };
 use std::alloc::Global;
 use std::process::Abort;
@@ -39,6 +39,39 @@ fn ended<D: LogDisk>(closed: Result<D, Unsynced<D>>) -> (Option<SyncCause>, D) {
         Ok(disk) => (None, disk),
         Err(Unsynced { disk, cause }) => (Some(cause), disk),
     }
+}
+
+// A put, and the close of a store that was opened to write each record at once, and then lets its records wait.
+fn put_after_letting_wait<I: Index, D: LogDisk, R: Wait + Abort>(
+    rt: &R,
+    alloc: Global,
+    disk: D,
+) -> (Option<SyncCause>, D) {
+    let Ok(opened) = open_store::<I, D>(alloc, disk, "a.log", 64) else {
+        rt.panic("no store is opened")
+    };
+    let OpenedStore {
+        store,
+        pass,
+        points: _,
+        latest: _,
+        records: _,
+    } = opened;
+    let Ok((store, pass)) = let_wait(alloc, store, pass) else {
+        rt.panic("no memory")
+    };
+    let mut store = ObjectStore::from_parts(alloc, store, pass);
+    let _ = store.put(rt, 1, FIRST, 10);
+    ended(store.close())
+}
+
+#[test]
+fn an_opened_store_lets_its_records_wait(rt: HostRuntime) {
+    let alloc = rt.alloc();
+    let disk = failing_disk(&rt, alloc, EMPTY, WRITE_FAILS);
+    let (cause, disk) = put_after_letting_wait::<FlatIndex, MemDisk, _>(&rt, alloc, disk);
+    assert_same!(rt; cause, Some(SyncCause::Disk { cell: 0 }));
+    expect_bytes(&rt, alloc, &disk, EMPTY);
 }
 
 // Two puts and the close of a store.
