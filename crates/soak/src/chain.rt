@@ -6,27 +6,35 @@ use crate::last::is_there;
 use crate::plan::Plan;
 use disk_trait::LogDisk;
 use index_layer::Index;
-use plain_list::Stamped;
+use plain_list::{Answer, Stamped};
 use sessions::{CallFault, Start};
+use std::alloc::Global;
 use std::sync::Wait;
-use store_client::{Client, Report, Work};
+use store_client::{Batch, Client, NotAdded, Report, Work};
 use thiserror::Error;
+
+// How many changes a batch has at most.
+const BATCH: u64 = 8;
 
 /// Why a thread makes no more changes.
 #[derive(Clone, Copy, Debug, Error)]
 pub enum Broken {
     #[error("a call was refused: {0}")]
     Refused(#[from] CallFault),
+    #[error("a change wasn't added to a batch: {0}")]
+    NotAdded(#[from] NotAdded),
     #[error("object {id} isn't where {done} changes leave it")]
     Lost { done: u64, id: u64 },
     #[error("change {number} wasn't told where its object was")]
     Told { number: u64 },
 }
 
-/// A thread that changes objects of its own, one after the other and then again from the first one on. Before its first
-/// change it finds out how many changes were made.
+/// A thread that changes objects of its own, one after the other and then again from the first one on. Of two calls one
+/// makes a change, and the other one makes several in a batch. Before its first change the thread finds out how many
+/// changes were made.
 #[derive(Drop)]
 pub struct Chain {
+    alloc: Global,
     plan: Plan,
     pub session: u8,
     has_looked: bool,
@@ -38,8 +46,9 @@ pub struct Chain {
 }
 
 impl Chain {
-    pub fn new(plan: Plan, session: u8) -> Chain {
+    pub fn new(alloc: Global, plan: Plan, session: u8) -> Chain {
         Chain {
+            alloc,
             plan,
             session,
             has_looked: false,
@@ -84,21 +93,94 @@ impl Chain {
 
     // Makes the next change.
     fn change<I: Index, D: LogDisk, O: Start, R: Wait>(
-        &mut self,
+        &self,
         rt: &R,
         client: &mut Client<'_, I, D, O>,
-    )
+    ) -> Result<(), Broken>
         ensures { Keeps client.old client.new }
     {
         let number = self.done.saturating_add(1);
         let Stamped { at, moment } = self.stamp(number);
-        match client.report(rt, self.object(number), at, moment) {
-            Ok(told) if self.is_told(number, &told) => {
-                self.done = number;
-                self.left = self.left.saturating_sub(1);
+        let told = client.report(rt, self.object(number), at, moment)?;
+        if self.is_told(number, &told) {
+            Ok(())
+        } else {
+            Err(Broken::Told { number })
+        }
+    }
+
+    // So many next changes, as a batch. Each is a move and a put.
+    fn batch_of(&self, changes: u64) -> Result<Batch, NotAdded> {
+        let mut batch = Batch::new(self.alloc);
+        for ahead in 1..=changes {
+            let number = self.done.saturating_add(ahead);
+            let Stamped { at, moment } = self.stamp(number);
+            batch.report(self.object(number), at, moment)?;
+        }
+        Ok(batch)
+    }
+
+    // Whether these are the expected answers to the move and the put of a change.
+    fn are_told(&self, number: u64, moved: Option<&Answer>, put: Option<&Answer>) -> bool {
+        match (self.before(number), moved, put) {
+            (Some(before), Some(Answer::Moved(from)), Some(Answer::Present(kept))) => {
+                *from == before && *kept == self.stamp(number)
             }
-            Ok(_) => self.broken = Some(Broken::Told { number }),
-            Err(fault) => self.broken = Some(Broken::Refused(fault)),
+            (None, Some(Answer::Absent), Some(Answer::Done)) => true,
+            _ => false,
+        }
+    }
+
+    // The first of so many next changes that didn't get its expected answers, if there is one.
+    fn not_told(&self, changes: u64, answers: &[Answer]) -> Option<u64> {
+        let mut answers = answers.iter();
+        for ahead in 1..=changes {
+            let number = self.done.saturating_add(ahead);
+            let (moved, put) = (answers.next(), answers.next());
+            if !self.are_told(number, moved, put) {
+                return Some(number);
+            }
+        }
+        None
+    }
+
+    // Makes so many next changes in a batch.
+    fn change_some<I: Index, D: LogDisk, O: Start, R: Wait>(
+        &self,
+        rt: &R,
+        client: &mut Client<'_, I, D, O>,
+        changes: u64,
+    ) -> Result<(), Broken>
+        ensures { Keeps client.old client.new }
+    {
+        let batch = self.batch_of(changes)?;
+        let replies = client.apply(rt, &batch)?;
+        match self.not_told(changes, replies.answers.as_slice()) {
+            Some(number) => Err(Broken::Told { number }),
+            None => Ok(()),
+        }
+    }
+
+    // Makes the next change, or so many of them in a batch.
+    fn call<I: Index, D: LogDisk, O: Start, R: Wait>(
+        &mut self,
+        rt: &R,
+        client: &mut Client<'_, I, D, O>,
+        changes: u64,
+    )
+        ensures { Keeps client.old client.new }
+    {
+        let made = if changes == 1 {
+            self.change(rt, client)
+        } else {
+            self.change_some(rt, client, changes)
+        };
+        match made {
+            Ok(()) => {
+                self.done = self.done.saturating_add(changes);
+                self.left = self.left.saturating_sub(changes);
+            }
+            Err(broken) => self.broken = Some(broken),
         }
     }
 
@@ -184,11 +266,14 @@ impl<R: Wait> Work<R> for Chain {
             self.look(rt, client);
             return;
         }
-        for _ in 0..self.plan.each() {
-            if self.left == 0 || self.broken.is_some() {
+        let end = self.done.saturating_add(self.plan.each().min(self.left));
+        for call in 0..self.plan.each() {
+            let left = end.saturating_sub(self.done);
+            if left == 0 || self.broken.is_some() {
                 return;
             }
-            self.change(rt, client);
+            let most = if call % 2 == 0 { 1 } else { BATCH };
+            self.call(rt, client, left.min(most));
         }
     }
 }

@@ -20,7 +20,8 @@
 //! With `quiet` it prints only what doesn't depend on the schedule.
 //!
 //! With `chain` the run continues with what it finds in these files. Each thread moves objects of its own to new
-//! positions, one after the other. The number of a change determines the change. So the objects must be exactly where a
+//! positions, one after the other. Every second call is a batch of up to eight changes. The number of a change determines
+//! the change. So the objects must be exactly where a
 //! number of first changes of each thread leaves them. The run prints how many changes it found. After about ROUND
 //! changes it prints how many were made, and rotates the store. If you kill the run, the next start reports what is
 //! there. `tools/soak` drives it.

@@ -20,10 +20,10 @@ fn chains_of(alloc: Global, plan: Plan) -> Option<Vec<Chain>>
     ensures { IfSome result (λ all. vec_len all ≡ 4) }
 {
     let chains = [
-        Chain::new(plan, 0),
-        Chain::new(plan, 1),
-        Chain::new(plan, 2),
-        Chain::new(plan, 3),
+        Chain::new(alloc, plan, 0),
+        Chain::new(alloc, plan, 1),
+        Chain::new(alloc, plan, 2),
+        Chain::new(alloc, plan, 3),
     ];
     Vec::from_array(alloc, chains).ok()
 }

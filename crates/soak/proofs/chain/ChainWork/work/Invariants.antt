@@ -1,5 +1,5 @@
 use Rattle.store_client.specs.Caller.{Keeps}
 use Rattle.soak.proofs.chain.ChainWork.work.Given as goal
 
-abbrev pub invariant-loop : goal.invariant-loop
-invariant-loop g l = Keeps l.initial.client l.client
+abbrev pub invariant-loop-call : goal.invariant-loop-call
+invariant-loop-call g l = Keeps l.initial.client l.client
