@@ -212,7 +212,7 @@ fn eight_threads_that_sync_share_one_append(rt: HostRuntime) {
     let (covered, disk) = eight_put_and_sync::<FlatIndex, MemDisk, _>(&rt, alloc, disk);
     assert_same!(rt; covered, 8);
     let nothing = calls_of_nothing(&rt, alloc);
-    assert_same!(rt; disk.moments(), nothing + CALLS_OF_AN_APPEND);
+    assert_same!(rt; disk.moments(), nothing.saturating_add(CALLS_OF_AN_APPEND));
     assert_same!(rt; disk.bytes().len(), 17 + 8 * 32);
 }
 
