@@ -1,19 +1,17 @@
 -- The entries of a batch, and a history with them.
 use Rattle.std.proofs.Common.{◌≡◌, ◌≢◌, ℕ, suc, ◌+◌, ◌≤◌, Bool, true, false, List, [], ◌∷◌, ◌++◌, length, Some, None, refl, sym, ◌∙◌, ap, cond, arith, ◌||◌}
 use mathlib.Core.Bool.{true≢false}
-use Rattle.std.proofs.lemmas.List.{append-nil}
 use Rattle.std.specs.List.{list_any}
 use Rattle.plain_list.specs.declared.ops.Op.{Op}
-use Rattle.plain_list.specs.declared.ops.Answer.{Answer}
 use Rattle.plain_list.specs.declared.entries.Entry.{Entry}
 use Rattle.plain_list.specs.declared.entries.Entry.TheVariants.{Fail, Call, Begin, Install, Abandon}
 use Rattle.plain_list.specs.declared.entries.Lost.TheVariants as lost
 use Rattle.plain_list.specs.World.{World}
 use Rattle.plain_list.specs.Answer.{answer_of, after_of, changed, is_change}
-use Rattle.plain_list.specs.History.{world_after, replies, call_count, failed_cell}
+use Rattle.plain_list.specs.History.{world_after, failed_cell}
 use Rattle.plain_list.specs.State.{State, step, state_after, are_fails, is_legal_history}
 use Rattle.plain_list.specs.Batch.{answers_to, after_all, batch_calls, batch_fails, AreFailsOf}
-use Rattle.plain_list.proofs.Histories.{has_failed, has_failed-none, fails-legal, legal-append, failed_cell-append, world_after-append, state_after-append, replies-append, call_count-append}
+use Rattle.plain_list.proofs.Histories.{has_failed, fails-legal, legal-append, failed_cell-append, state_after-append}
 
 -- an operation that changes nothing leaves the world as it is
 pub after_of-same : (world : World) (op : Op) → is_change (answer_of world op) ≡ false → after_of world op ≡ world
@@ -36,10 +34,6 @@ after_all-same world (op ∷ ops) none =
 
 -- the calls of a batch have its answers, and lead to its world
 
-pub batch_calls-replies : (world : World) (session row : ℕ) (ops : List Op) → replies world (batch_calls session row ops) ≡ answers_to world ops
-batch_calls-replies world session row [] = refl
-batch_calls-replies world session row (op ∷ ops) = ap (λ (l : List Answer). answer_of world op ∷ l) (batch_calls-replies (after_of world op) session (row + 1) ops)
-
 pub batch_calls-world : (world : World) (session row : ℕ) (ops : List Op) → world_after world (batch_calls session row ops) ≡ after_all world ops
 batch_calls-world world session row [] = refl
 batch_calls-world world session row (op ∷ ops) = batch_calls-world (after_of world op) session (row + 1) ops
@@ -48,10 +42,6 @@ pub batch_calls-state : (w : ℕ) (s : State) (session row : ℕ) (ops : List Op
 batch_calls-state w s session row [] = refl
 batch_calls-state w s session row (op ∷ ops) = batch_calls-state w (step w s (Call session row op)) session (row + 1) ops
 
-pub batch_calls-count : (session row : ℕ) (ops : List Op) → call_count (batch_calls session row ops) ≡ length ops
-batch_calls-count session row [] = refl
-batch_calls-count session row (op ∷ ops) = ap suc (batch_calls-count session (row + 1) ops)
-
 pub batch_calls-length : (session row : ℕ) (ops : List Op) → length (batch_calls session row ops) ≡ length ops
 batch_calls-length session row [] = refl
 batch_calls-length session row (op ∷ ops) = ap suc (batch_calls-length session (row + 1) ops)
@@ -59,9 +49,6 @@ batch_calls-length session row (op ∷ ops) = ap suc (batch_calls-length session
 pub batch_calls-sound : (session row : ℕ) (ops : List Op) → failed_cell (batch_calls session row ops) ≡ None
 batch_calls-sound session row [] = refl
 batch_calls-sound session row (op ∷ ops) = batch_calls-sound session (row + 1) ops
-
-pub batch_calls-has_failed : (session row : ℕ) (ops : List Op) → has_failed (batch_calls session row ops) ≡ false
-batch_calls-has_failed session row ops = has_failed-none (batch_calls session row ops) (batch_calls-sound session row ops)
 
 pub batch_calls-legal : (w : ℕ) (s : State) (session row : ℕ) (ops : List Op) → is_legal_history w s (batch_calls session row ops) ≡ true
 batch_calls-legal w s session row [] = refl
@@ -97,22 +84,6 @@ fails-world world (Call session row op ∷ fs) all = absurd (true≢false (sym a
 fails-world world (Begin number name ∷ fs) all = absurd (true≢false (sym all))
 fails-world world (Install number ∷ fs) all = absurd (true≢false (sym all))
 fails-world world (Abandon number ∷ fs) all = absurd (true≢false (sym all))
-
-pub fails-replies : (world : World) (fs : List Entry) → are_fails fs ≡ true → replies world fs ≡ []
-fails-replies world [] all = refl
-fails-replies world (Fail cell lost ∷ fs) all = fails-replies world fs all
-fails-replies world (Call session row op ∷ fs) all = absurd (true≢false (sym all))
-fails-replies world (Begin number name ∷ fs) all = absurd (true≢false (sym all))
-fails-replies world (Install number ∷ fs) all = absurd (true≢false (sym all))
-fails-replies world (Abandon number ∷ fs) all = absurd (true≢false (sym all))
-
-pub fails-count : (fs : List Entry) → are_fails fs ≡ true → call_count fs ≡ 0
-fails-count [] all = refl
-fails-count (Fail cell lost ∷ fs) all = fails-count fs all
-fails-count (Call session row op ∷ fs) all = absurd (true≢false (sym all))
-fails-count (Begin number name ∷ fs) all = absurd (true≢false (sym all))
-fails-count (Install number ∷ fs) all = absurd (true≢false (sym all))
-fails-count (Abandon number ∷ fs) all = absurd (true≢false (sym all))
 
 -- the first of some failed appends has the number of them all
 pub fails-cell : (cell : ℕ) (fs : List Entry) → AreFailsOf cell fs → fs ≢ [] → failed_cell fs ≡ Some cell
@@ -174,20 +145,3 @@ failed_cell-batch_fails h cell world session row ops sound some = failed_cell-ap
 
 pub state_after-fails : (w : ℕ) (s : State) (h fs : List Entry) → are_fails fs ≡ true → state_after w s (h ++ fs) ≡ state_after w s h
 state_after-fails w s h fs all = state_after-append w s h fs ∙ fails-state w (state_after w s h) fs all
-
--- after a history with the calls of a batch at its end
-
-pub world_after-batch_calls : (world : World) (h : List Entry) (session row : ℕ) (ops : List Op) → world_after world (h ++ batch_calls session row ops) ≡ after_all (world_after world h) ops
-world_after-batch_calls world h session row ops = world_after-append world h (batch_calls session row ops) ∙ batch_calls-world (world_after world h) session row ops
-
-pub replies-batch_calls : (world : World) (h : List Entry) (session row : ℕ) (ops : List Op)
-    → replies world (h ++ batch_calls session row ops) ≡ replies world h ++ answers_to (world_after world h) ops
-replies-batch_calls world h session row ops =
-    replies-append world h (batch_calls session row ops) ∙ ap (λ l. replies world h ++ l) (batch_calls-replies (world_after world h) session row ops)
-
-pub call_count-batch_calls : (h : List Entry) (session row : ℕ) (ops : List Op) → call_count (h ++ batch_calls session row ops) ≡ call_count h + length ops
-call_count-batch_calls h session row ops = omega (arith, call_count-append h (batch_calls session row ops), batch_calls-count session row ops)
-
-pub has_failed-batch_calls : (h : List Entry) (session row : ℕ) (ops : List Op) → has_failed h ≡ false → has_failed (h ++ batch_calls session row ops) ≡ false
-has_failed-batch_calls h session row ops sound =
-    has_failed-none (h ++ batch_calls session row ops) (failed_cell-append h (batch_calls session row ops) sound ∙ batch_calls-sound session row ops)

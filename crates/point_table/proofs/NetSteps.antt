@@ -91,9 +91,6 @@ removes_next ms m old mid new removes is =
     at : (k : ℕ) → position_of new k ≡ cond (m.id == k) None (position_of mid k)
     at k = ap (λ (ms : World). position_of ms k) is ∙ position_of-without m.id mid k
 
-pub touches_none : (old : World) → Touches [] old old
-touches_none old = record { others = λ k none. refl; world = λ is. is }
-
 -- what was touched is the first of these
 pub touches_more : (ms more : List Member) (old new : World) → Touches ms old new → Touches (ms ++ more) old new
 touches_more ms more old new touches =
