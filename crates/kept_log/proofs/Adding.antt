@@ -46,7 +46,3 @@ going_cell world (Call session row op) cell one = refl
 going_cell world (Begin number name) cell one = refl
 going_cell world (Install number) cell one = refl
 going_cell world (Abandon number) cell one = refl
-
--- If an entry with a cell may come next, no append has failed.
-pub sound-next : (w : ℕ) (s : State) (h : List Entry) (e : Entry) (cell : Cell) → IsNext w s h e cell → has_failed h ≡ false
-sound-next w s h e cell next = sound-push w s h e next.legal (going_cell (world_after s.world h) e cell next.cells)

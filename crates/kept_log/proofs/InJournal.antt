@@ -1,7 +1,8 @@
 -- What an append does to each history that a journal keeps, and the cell that a history's failed append names.
+use Rattle.std.specs.Prelude.{map}
 use Rattle.std.proofs.Common.{◌≡◌, ◌⊎◌, inl, inr, ℕ, ◌≤◌, true, false, List, [], ◌∷◌, ◌++◌, Option, Some, None, is_some, refl, sym, ◌∙◌, ap, subst, arith, cond}
 use Rattle.std.proofs.lemmas.Bool.{true≢false}
-use Rattle.std.proofs.lemmas.List.{append-nil}
+use Rattle.std.proofs.lemmas.List.{append-nil, append_assoc, append_cancel_left, map-append}
 use Rattle.causes.specs.Causes.{Rose}
 use Rattle.cell_format.specs.declared.cell.Cell.{Cell}
 use Rattle.plain_list.specs.declared.entries.Entry.{Entry}
@@ -14,16 +15,20 @@ use Rattle.plain_list.specs.State.{State, is_fail, IsLegal}
 use Rattle.plain_list.proofs.Histories.{has_failed, failed_cell-none, failed_cell-append}
 pub use Rattle.plain_list.proofs.Histories.{has_failed-none, failed_cell-push}
 use Rattle.disk_trait.specs.Drive.{Drive, KeepsLaws}
+use Rattle.disk_trait.specs.Moments.{LeavesOnly}
 use Rattle.split_log.specs.LogView.{most_cells}
 use Rattle.log_state.specs.Recovers.{Recovers}
 use Rattle.log_state.specs.Changes.{cells_of, failed_cells}
 use Rattle.log_state.proofs.PlacedChanges.{cells_of-append, failed_cells-none as failed_cells-sound}
-use Rattle.kept_log.specs.KeptView.{KeptView}
+use Rattle.kept_log.specs.KeptView.{KeptView, Earlier}
+use Rattle.kept_log.specs.Moved.{lessen, lessen_cell, own_state, own_entries, own_view}
 use Rattle.kept_log.specs.Kept.{StartsWith, IsOpened}
-use Rattle.kept_log.specs.Journal.{KeepsIn, AreWritten, Added, AddedAll, LeavesEither, LeavesAllOrNone}
+use Rattle.kept_log.specs.Journal.{KeepsIn, KeepsFrom, KeepsWaiting, AreWritten, RecoversWith, OfOwn, OwnAllOrNone, Added, AddedAll, LeavesEither, LeavesAllOrNone}
+use Rattle.kept_log.proofs.LesserNumbers.{lessen-fail}
+use Rattle.kept_log.proofs.OwnHistory.{own-cells, own-legal}
 use Rattle.kept_log.proofs.StepCells.{call-no_cells}
 use Rattle.kept_log.proofs.Starting.{kept-opened}
-use Rattle.kept_log.proofs.Waiting.{at-once-keeps, are-written}
+use Rattle.kept_log.proofs.Waiting.{at-once-keeps, are-written, in-failed}
 use Rattle.kept_log.proofs.Adding.{sound-push}
 
 -- If no cell is named, none was lost.
@@ -59,12 +64,11 @@ same_number n number same = cc same
 pub rose_since : (a b c : ℕ) → a ≤ b → Rose b c → Rose a c
 rose_since a b c before rose = omega (arith, before, rose)
 
--- An entry without a cell changes nothing that the journal keeps.
-pub in-quiet : {D : Type 0} (drive : D → Drive) (w : ℕ) (s : State) (h : List Entry) (e : Entry) (log : Option (KeptView D)) → IsLegal w s (h ++ e ∷ [])
+-- An entry without a cell changes nothing that a log keeps.
+own-quiet : {D : Type 0} (drive : D → Drive) (w : ℕ) (s : State) (h : List Entry) (e : Entry) (log : KeptView D) → IsLegal w s (h ++ e ∷ [])
     → cells_of (world_after s.world h) (e ∷ []) ≡ []
-    → is_fail e ≡ false → KeepsIn drive w s h log → KeepsIn drive w s (h ++ e ∷ []) log
-in-quiet drive w s h e None legal none going kept = failed_cell-push h e (sound-push w s h e legal going) ∙ going_cell e going
-in-quiet drive w s h e (Some log) legal none going kept =
+    → is_fail e ≡ false → KeepsWaiting drive w s h log → KeepsWaiting drive w s (h ++ e ∷ []) log
+own-quiet drive w s h e log legal none going kept =
     let sound : has_failed h ≡ false = sound-push w s h e legal going in
     let unfailed : failed_cell (h ++ e ∷ []) ≡ None = failed_cell-push h e sound ∙ going_cell e going in
     let failed : log.failed ≡ None = kept.failed ∙ failed_cell-none h sound in
@@ -80,6 +84,35 @@ in-quiet drive w s h e (Some log) legal none going kept =
       most = kept.most;
     }
 
+quiet-from : {D : Type 0} (drive : D → Drive) (w : ℕ) (s : State) (h : List Entry) (e : Entry) (log : KeptView D) (earlier : Option (Earlier D)) → IsLegal w s (h ++ e ∷ [])
+    → cells_of (world_after s.world h) (e ∷ []) ≡ []
+    → is_fail e ≡ false → KeepsFrom drive w s h log earlier → KeepsFrom drive w s (h ++ e ∷ []) log earlier
+quiet-from drive w s h e log None legal none going kept = own-quiet drive w s h e log legal none going kept
+quiet-from drive w s h e log (Some b) legal none going kept =
+    let n = b.skipped in
+    let own : List Entry = own_entries b kept.after in
+    let pushed : own_entries b (kept.after ++ e ∷ []) ≡ own ++ lessen n e ∷ [] = map-append (lessen n) kept.after (e ∷ []) in
+    record {
+      moves = kept.moves;
+      after = kept.after ++ e ∷ [];
+      parts = ap (λ (l : List Entry). l ++ e ∷ []) kept.parts ∙ append_assoc b.entries kept.after (e ∷ []);
+      rests = kept.rests;
+      begun = kept.begun;
+      sound = kept.sound;
+      keeps = subst (λ (l : List Entry). KeepsWaiting drive w (own_state w s b) l (own_view b log)) (sym pushed)
+          (own-quiet drive w (own_state w s b) own (lessen n e) (own_view b log)
+          (own-legal w s h (e ∷ []) b kept.after kept.parts kept.rests kept.begun legal)
+          (own-cells w s h (e ∷ []) b kept.after kept.parts ∙ ap (map (lessen_cell n)) none)
+          (lessen-fail n e ∙ going) kept.keeps);
+    }
+
+-- The same, if there is a log.
+pub in-quiet : {D : Type 0} (drive : D → Drive) (w : ℕ) (s : State) (h : List Entry) (e : Entry) (log : Option (KeptView D)) → IsLegal w s (h ++ e ∷ [])
+    → cells_of (world_after s.world h) (e ∷ []) ≡ []
+    → is_fail e ≡ false → KeepsIn drive w s h log → KeepsIn drive w s (h ++ e ∷ []) log
+in-quiet drive w s h e None legal none going kept = failed_cell-push h e (sound-push w s h e legal going) ∙ going_cell e going
+in-quiet drive w s h e (Some log) legal none going kept = quiet-from drive w s h e log log.earlier legal none going kept
+
 -- A call that changes nothing has no cell.
 pub in-call : {D : Type 0} (drive : D → Drive) (w : ℕ) (s : State) (h : List Entry) (session row : ℕ) (op : Op) (log : Option (KeptView D))
     → IsLegal w s (h ++ Call session row op ∷ [])
@@ -89,17 +122,17 @@ in-call drive w s h session row op log legal none =
 
 -- A log that was just opened keeps the empty history.
 pub in-opened : {D : Type 0} (drive : D → Drive) (w : ℕ) (s : State) (log : KeptView D) → log.cells ≡ log.first → IsOpened w s (drive log.start) (drive log.disk)
-    → log.cells ≤ most_cells → log.failed ≡ None → log.waiting ≡ [] → KeepsIn drive w s [] (Some log)
+    → log.cells ≤ most_cells → log.failed ≡ None → log.waiting ≡ [] → KeepsWaiting drive w s [] log
 in-opened drive w s log first opened most sound = at-once-keeps drive w s [] log (record {
   keeps = kept-opened drive w s log first opened;
   failed = sound;
   named = λ n. no_number None n refl;
   most = most;
   later = omega (arith, opened.same);
-  rose = unnamed None refl;
+  rose = λ still. unnamed None refl;
   calm = λ none. opened.same;
   well = λ none. opened.calls;
-  stopped = unnamed None refl;
+  stopped = λ still. unnamed None refl;
   file = opened.file;
   told = opened.told;
   from = λ bytes told.
@@ -123,14 +156,13 @@ all-added-none drive more = record {
 }
 
 -- If nothing is written, a crash leaves the cells that the file has.
-pub leaves-still : {D : Type 0} (drive : D → Drive) (w : ℕ) (s : State) (h es : List Entry) (log : Option (KeptView D)) → ((d : D) → KeepsLaws (drive d))
-    → KeepsIn drive w s h log → failed_cell h ≡ None → LeavesAllOrNone drive w s h es log log
-leaves-still drive w s h es None laws kept none = tt
-leaves-still drive w s h es (Some log) laws kept none = λ first written starts are. record {
+pub own-still : {D : Type 0} (drive : D → Drive) (w : ℕ) (s : State) (h es : List Entry) (log now : KeptView D) → now.disk ≡ log.disk → ((d : D) → KeepsLaws (drive d))
+    → KeepsWaiting drive w s h log → log.failed ≡ None → OwnAllOrNone drive w s h es log now
+own-still {D = D} drive w s h es log now same laws kept none = λ first written starts are. subst (λ (d : D). LeavesOnly (drive log.disk) (drive d) (RecoversWith w first written s.world (h ++ es))) (sym same) (record {
   later = omega arith;
   each = λ c left. inl (stands first written starts are c ((laws log.disk).only_now c left));
   before = λ t c early left. inl left;
-}
+})
   where
     kept_cells : List Cell
     kept_cells = cells_of s.world kept.written
@@ -139,14 +171,25 @@ leaves-still drive w s h es (Some log) laws kept none = λ first written starts 
     placed first c (inl all) = all
     placed first c (inr more) =
         subst (λ (l : List Cell). Recovers w (first ++ l) c)
-        (ap (λ (l : List Cell). kept_cells ++ l) (failed_cells-none kept.written (sym kept.keeps.failed ∙ kept.failed ∙ none)) ∙ append-nil kept_cells) more
+        (ap (λ (l : List Cell). kept_cells ++ l) (failed_cells-none kept.written (sym kept.keeps.failed ∙ none)) ∙ append-nil kept_cells) more
 
     stands : (first written : List Cell) → StartsWith w first (drive log.start) → AreWritten s h log written → (c : List ℕ) → (drive log.disk).images c → Recovers w (first ++ written) c
     stands first written starts are c left =
         subst (λ (l : List Cell). Recovers w (first ++ l) c) (sym (are-written drive w s h log kept written are))
         (placed first c ((kept.keeps.keeps.since first starts).history.at_end c left))
 
+still-from : {D : Type 0} (drive : D → Drive) (w : ℕ) (s : State) (h es : List Entry) (log : KeptView D) (earlier : Option (Earlier D)) → ((d : D) → KeepsLaws (drive d))
+    → KeepsFrom drive w s h log earlier → log.failed ≡ None → OfOwn w s h es (OwnAllOrNone drive w) log log earlier
+still-from drive w s h es log None laws kept none = own-still drive w s h es log log refl laws kept none
+still-from drive w s h es log (Some e) laws kept none = λ after parts.
+    own-still drive w (own_state w s e) (own_entries e after) (own_entries e es) (own_view e log) (own_view e log) refl laws
+    (subst (λ (l : List Entry). KeepsWaiting drive w (own_state w s e) (own_entries e l) (own_view e log)) (append_cancel_left e.entries kept.after after (sym kept.parts ∙ parts)) kept.keeps) none
+
+pub leaves-still : {D : Type 0} (drive : D → Drive) (w : ℕ) (s : State) (h es : List Entry) (log : Option (KeptView D)) → ((d : D) → KeepsLaws (drive d))
+    → KeepsIn drive w s h log → failed_cell h ≡ None → LeavesAllOrNone drive w s h es log log
+leaves-still drive w s h es None laws kept none = tt
+leaves-still drive w s h es (Some log) laws kept none = still-from drive w s h es log log.earlier laws kept (in-failed drive w s h (Some log) kept ∙ none)
+
 pub leaves-quiet : {D : Type 0} (drive : D → Drive) (w : ℕ) (s : State) (h : List Entry) (e : Entry) (log : Option (KeptView D)) → ((d : D) → KeepsLaws (drive d))
     → KeepsIn drive w s h log → failed_cell h ≡ None → LeavesEither drive w s h e log log
-leaves-quiet drive w s h e None laws kept none = tt
-leaves-quiet drive w s h e (Some log) laws kept none = leaves-still drive w s h (e ∷ []) (Some log) laws kept none
+leaves-quiet drive w s h e log laws kept none = leaves-still drive w s h (e ∷ []) log laws kept none

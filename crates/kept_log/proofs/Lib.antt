@@ -1,4 +1,10 @@
 pub mod Starting
+pub mod LesserNumbers
+pub mod OwnHistory
+pub mod MovedLogs
+pub mod Stopping
+pub mod Moving
+pub mod Sent
 pub mod StepCells
 pub mod Waiting
 pub mod Adding

@@ -14,7 +14,3 @@ use Rattle.log_state.proofs.PlacedChanges.{cells_of-append}
 pub call-no_cells : (world : World) (session row : ℕ) (op : Op) → is_change (answer_of world op) ≡ false
     → cells_of world (Call session row op ∷ []) ≡ []
 call-no_cells world session row op change = ap (λ b. cond b (change_cells op) [] ++ []) change
-
--- A failed append has none.
-pub cells-fail : (world : World) (h : List Entry) (number : ℕ) (lost : Lost) → cells_of world (h ++ Fail number lost ∷ []) ≡ cells_of world h
-cells-fail world h number lost = cells_of-append world h (Fail number lost ∷ []) ∙ append-nil (cells_of world h)

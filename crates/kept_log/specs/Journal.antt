@@ -6,7 +6,7 @@ use Rattle.plain_list.specs.declared.entries.Entry.{Entry}
 use Rattle.plain_list.specs.declared.entries.Entry.TheVariants.{Fail}
 use Rattle.plain_list.specs.declared.entries.Lost.{Lost}
 use Rattle.plain_list.specs.World.{World}
-use Rattle.plain_list.specs.State.{State, IsLegal}
+use Rattle.plain_list.specs.State.{State, IsLegal, state_after}
 use Rattle.plain_list.specs.Batch.{AreFailsOf}
 pub use Rattle.plain_list.specs.History.{failed_cell}
 use Rattle.disk_trait.specs.Drive.{Drive, Made, SameFile}
@@ -14,13 +14,14 @@ use Rattle.disk_trait.specs.Moments.{LeavesOnly, LeavesNow}
 use Rattle.log_state.specs.Recovers.{Recovers}
 use Rattle.log_state.specs.Changes.{cells_of, failed_cells, lost_cells}
 use Rattle.recovery.specs.Calls.{AllWentWell, EndsAtFault}
-use Rattle.kept_log.specs.KeptView.{KeptView, kept_view}
+use Rattle.kept_log.specs.KeptView.{KeptView, Earlier, kept_view}
+use Rattle.kept_log.specs.Moved.{own_state, own_entries, own_view}
 use Rattle.kept_log.specs.Kept.{StartsWith, RecoversTo, Keeps}
 use Rattle.split_log.specs.LogView.{LogView, most_cells}
 use Rattle.split_log.specs.Append.{calls_to_add}
 use Rattle.kept_log.specs.declared.faults.AppendAllLost.{AppendAllLost}
 use Rattle.kept_log.specs.declared.faults.AppendAllLost.TheVariants.{Disk, Memory}
-use Rattle.kept_log.specs.Steps.{IsNext, AreNext, IsSince}
+use Rattle.kept_log.specs.Steps.{IsNext, AreNext, IsSince, IsMovedFrom}
 
 -- The number of cells, those that wait included, or 0 without a log.
 abbrev pub cells_in : {D : Type 0} → Option (KeptView D) → ℕ
@@ -46,6 +47,30 @@ at_sync_in (Some log) = log.at_sync
 abbrev pub waits_from : {D : Type 0} → KeptView D → KeptView D
 waits_from log = record log { at_sync = true }
 
+-- Whether a fresh log may replace the log. Without a log none does.
+abbrev pub moves_in : {D : Type 0} → Option (KeptView D) → Bool
+moves_in None = false
+moves_in (Some log) = log.moves
+
+-- The log, which a fresh one may replace from now on.
+abbrev pub moves_from : {D : Type 0} → KeptView D → KeptView D
+moves_from log = record log { moves = true }
+
+-- A fresh log that was opened on the drive `start`, in place of the log, after these entries. It takes `skipped` from the
+-- numbers of splits.
+abbrev pub moved_to : {D : Type 0} → List Entry → ℕ → LogView D → D → KeptView D → KeptView D
+moved_to entries skipped fresh start log = record {
+  disk = fresh.disk;
+  cells = fresh.cells;
+  failed = fresh.failed;
+  start = log.start;
+  first = log.first;
+  waiting = [];
+  at_sync = log.at_sync;
+  moves = log.moves;
+  earlier = Some (record { entries = entries; skipped = skipped; start = start; first = fresh.cells });
+}
+
 -- The number of the cell whose append failed.
 abbrev pub failed_in : {D : Type 0} → Option (KeptView D) → Option ℕ
 failed_in None = None
@@ -61,19 +86,20 @@ abbrev pub log_in : {D : Type 0} → Option (KeptView D) → Option (LogView D)
 log_in None = None
 log_in (Some log) = Some (kept_view log)
 
--- The log's file keeps the history. It has failed if and only if the history says so, and no device call follows one that
--- failed. The failed append names the log's number of cells, and the drive's count of faults has risen since the
--- opening. Without a failed append no call of the drive failed. The drive's file is still the one that was attached.
+-- The log's file keeps the history. It has failed if and only if the history says so. The failed append names the log's
+-- number of cells. The drive's count of faults has risen since the opening then, and no device call follows the one that
+-- failed, unless the log was stopped, which only one can be that a fresh log may replace. Without a failed append no call of
+-- the drive failed. The drive's file is still the one that was attached.
 pub record KeepsLog {D : Type 0} (drive : D → Drive) (w : ℕ) (s : State) (h : List Entry) (log : KeptView D) : Type 0 where
   pub keeps : Keeps drive w s h log
   pub failed : log.failed ≡ failed_cell h
   pub named : (n : ℕ) → failed_cell h ≡ Some n → n ≡ log.cells
   pub most : log.cells ≤ most_cells
   pub later : (drive log.start).faults ≤ (drive log.disk).faults
-  pub rose : is_some (failed_cell h) ≡ true → Rose (drive log.start).faults (drive log.disk).faults
+  pub rose : log.moves ≡ false → is_some (failed_cell h) ≡ true → Rose (drive log.start).faults (drive log.disk).faults
   pub calm : failed_cell h ≡ None → (drive log.disk).faults ≡ (drive log.start).faults
   pub well : failed_cell h ≡ None → AllWentWell (drive log.start) (drive log.disk)
-  pub stopped : is_some (failed_cell h) ≡ true → EndsAtFault (drive log.start) (drive log.disk)
+  pub stopped : log.moves ≡ false → is_some (failed_cell h) ≡ true → EndsAtFault (drive log.start) (drive log.disk)
   pub file : SameFile (drive log.start) (drive log.disk)
   -- The bytes are known if and only if they were at the opening. They recovered to cells that led to the state in which
   -- the history begins.
@@ -97,10 +123,26 @@ pub record KeepsWaiting {D : Type 0} (drive : D → Drive) (w : ℕ) (s : State)
   pub at_once : log.at_sync ≡ false → (log.waiting ≡ []) × (failed_cells written ≡ failed_cells h)
   pub most : log.cells + length log.waiting ≤ most_cells
 
+-- The log has replaced another one, when the history had these earlier entries. No append had failed then, and no split was
+-- open. The log by itself keeps the entries that came after them.
+pub record KeepsMoved {D : Type 0} (drive : D → Drive) (w : ℕ) (s : State) (h : List Entry) (e : Earlier D) (log : KeptView D) : Type 0 where
+  pub moves : log.moves ≡ true
+  pub after : List Entry
+  pub parts : h ≡ e.entries ++ after
+  pub rests : (state_after w s e.entries).splits ≡ []
+  pub begun : e.skipped ≤ (state_after w s e.entries).begun
+  pub sound : failed_cell e.entries ≡ None
+  pub keeps : KeepsWaiting drive w (own_state w s e) (own_entries e after) (own_view e log)
+
+-- The log keeps the history, after what came before it.
+abbrev pub KeepsFrom : {D : Type 0} → (D → Drive) → ℕ → State → List Entry → KeptView D → Option (Earlier D) → Type 0
+KeepsFrom drive w s h log None = KeepsWaiting drive w s h log
+KeepsFrom drive w s h log (Some e) = KeepsMoved drive w s h e log
+
 -- The log keeps the history, if there is one. Without a log, no append has failed.
 abbrev pub KeepsIn : {D : Type 0} → (D → Drive) → ℕ → State → List Entry → Option (KeptView D) → Type 0
 KeepsIn drive w s h None = failed_cell h ≡ None
-KeepsIn drive w s h (Some log) = KeepsWaiting drive w s h log
+KeepsIn drive w s h (Some log) = KeepsFrom drive w s h log log.earlier
 
 -- Both come from the same opening, or there is no log.
 abbrev pub IsSinceIn : {D : Type 0} → Option (KeptView D) → Option (KeptView D) → Type 0
@@ -108,6 +150,13 @@ IsSinceIn None None = ⊤
 IsSinceIn (Some old) (Some new) = IsSince old new
 IsSinceIn None (Some new) = ⊥
 IsSinceIn (Some old) None = ⊥
+
+-- Both come from the same first opening, or there is no log. A fresh log may have replaced the old one.
+abbrev pub IsMovedFromIn : {D : Type 0} → Option (KeptView D) → Option (KeptView D) → Type 0
+IsMovedFromIn None None = ⊤
+IsMovedFromIn (Some old) (Some new) = IsMovedFrom old new
+IsMovedFromIn None (Some new) = ⊥
+IsMovedFromIn (Some old) None = ⊥
 
 -- The fault count of the log's drive rose.
 abbrev pub RoseIn : {D : Type 0} → (D → Drive) → Option (KeptView D) → Option (KeptView D) → Type 0
@@ -131,13 +180,31 @@ pub record Added {D : Type 0} (drive : D → Drive) (cell : Cell) (old new : Opt
 abbrev pub AreWritten : {D : Type 0} → State → List Entry → KeptView D → List Cell → Type 0
 AreWritten s h log written = cells_of s.world h ≡ written ++ log.waiting
 
+-- A claim about a log by itself: about the state in which it began, its own history, other entries as its cells tell
+-- them, and the log before a call and after it.
+abbrev pub Claim : Type 0 → Type 1
+Claim D = State → List Entry → List Entry → KeptView D → KeptView D → Type 0
+
+-- The claim holds of a log and the history from `s`, or of the log's own history, if it has replaced another log.
+abbrev pub OfOwn : {D : Type 0} → ℕ → State → List Entry → List Entry → Claim D → KeptView D → KeptView D → Option (Earlier D) → Type 0
+OfOwn w s h es Holds old new None = Holds s h es old new
+OfOwn w s h es Holds old new (Some e) =
+    (after : List Entry) → h ≡ e.entries ++ after → Holds (own_state w s e) (own_entries e after) (own_entries e es) (own_view e old) (own_view e new)
+
+-- The same, if there is a log.
+abbrev pub OfLog : {D : Type 0} → ℕ → State → List Entry → List Entry → Claim D → Option (KeptView D) → Option (KeptView D) → Type 0
+OfLog w s h es Holds (Some old) (Some new) = OfOwn w s h es Holds old new old.earlier
+OfLog w s h es Holds _ _ = ⊤
+
 -- At every moment between the two, a crash leaves the first cells and the history's cells that didn't wait, and no
 -- others. The claim needs known first cells.
-abbrev pub LeavesAlone : {D : Type 0} → (D → Drive) → ℕ → State → List Entry → Option (KeptView D) → Option (KeptView D) → Type 0
-LeavesAlone drive w s h (Some old) (Some new) =
+abbrev pub OwnAlone : {D : Type 0} → (D → Drive) → ℕ → Claim D
+OwnAlone drive w s h es old new =
     (first written : List Cell) → StartsWith w first (drive old.start) → AreWritten s h old written
     → LeavesOnly (drive old.disk) (drive new.disk) (Recovers w (first ++ written))
-LeavesAlone drive w s h _ _ = ⊤
+
+abbrev pub LeavesAlone : {D : Type 0} → (D → Drive) → ℕ → State → List Entry → Option (KeptView D) → Option (KeptView D) → Type 0
+LeavesAlone drive w s h old new = OfLog w s h [] (OwnAlone drive w) old new
 
 -- How an append stopped at a fault: up to three of its calls went well, the next one failed, and no call came after it.
 -- If the first write or the first sync failed, no image has the new cell.
@@ -162,26 +229,24 @@ pub record Missed {D : Type 0} (drive : D → Drive) (cell : Cell) (number : ℕ
 abbrev pub RecoversWith : ℕ → List Cell → List Cell → World → List Entry → List ℕ → Type 0
 RecoversWith w first written world h image = Recovers w (first ++ written) image ⊎ Recovers w (first ++ cells_of world h) image
 
--- At every moment between the two, a crash leaves the history's cells that didn't wait, or all cells with those of the
--- entry. The claim needs known first cells.
-abbrev pub LeavesEither : {D : Type 0} → (D → Drive) → ℕ → State → List Entry → Entry → Option (KeptView D) → Option (KeptView D) → Type 0
-LeavesEither drive w s h e (Some old) (Some new) =
+-- At every moment between the two, a crash leaves the history's cells that didn't wait, or all cells with those of all
+-- entries of `es`. The claim needs known first cells.
+abbrev pub OwnAllOrNone : {D : Type 0} → (D → Drive) → ℕ → Claim D
+OwnAllOrNone drive w s h es old new =
     (first written : List Cell) → StartsWith w first (drive old.start) → AreWritten s h old written
-    → LeavesOnly (drive old.disk) (drive new.disk) (RecoversWith w first written s.world (h ++ e ∷ []))
-LeavesEither drive w s h e _ _ = ⊤
+    → LeavesOnly (drive old.disk) (drive new.disk) (RecoversWith w first written s.world (h ++ es))
+
+abbrev pub LeavesAllOrNone : {D : Type 0} → (D → Drive) → ℕ → State → List Entry → List Entry → Option (KeptView D) → Option (KeptView D) → Type 0
+LeavesAllOrNone drive w s h es old new = OfLog w s h es (OwnAllOrNone drive w) old new
+
+-- The same of one entry.
+abbrev pub LeavesEither : {D : Type 0} → (D → Drive) → ℕ → State → List Entry → Entry → Option (KeptView D) → Option (KeptView D) → Type 0
+LeavesEither drive w s h e old new = LeavesAllOrNone drive w s h (e ∷ []) old new
 
 -- `LeavesEither` holds of an append, for each history that the log keeps and each entry that has this cell.
 abbrev pub LeavesNext : {D : Type 0} → (D → Drive) → Cell → Option (KeptView D) → Option (KeptView D) → Type 0
 LeavesNext drive cell old new =
     (w : ℕ) (s : State) (h : List Entry) (e : Entry) → IsNext w s h e cell → KeepsIn drive w s h old → LeavesEither drive w s h e old new
-
--- At every moment between the two, a crash leaves the history's cells that didn't wait, or all cells with those of all
--- entries of `es`. The claim needs known first cells.
-abbrev pub LeavesAllOrNone : {D : Type 0} → (D → Drive) → ℕ → State → List Entry → List Entry → Option (KeptView D) → Option (KeptView D) → Type 0
-LeavesAllOrNone drive w s h es (Some old) (Some new) =
-    (first written : List Cell) → StartsWith w first (drive old.start) → AreWritten s h old written
-    → LeavesOnly (drive old.disk) (drive new.disk) (RecoversWith w first written s.world (h ++ es))
-LeavesAllOrNone drive w s h es _ _ = ⊤
 
 -- `LeavesAllOrNone` holds of an append of cells, for each history that the log keeps and all entries that have these
 -- cells.
@@ -206,11 +271,13 @@ pub record AllBreakIn {D : Type 0} (drive : D → Drive) (more : List Cell) (old
 
 -- A crash now leaves the history's cells that didn't wait, or all cells with those of all entries of `es`. The claim
 -- needs known first cells.
-abbrev pub LeavesNowAllOrNone : {D : Type 0} → (D → Drive) → ℕ → State → List Entry → List Entry → Option (KeptView D) → Option (KeptView D) → Type 0
-LeavesNowAllOrNone drive w s h es (Some old) (Some new) =
+abbrev pub OwnNowAllOrNone : {D : Type 0} → (D → Drive) → ℕ → Claim D
+OwnNowAllOrNone drive w s h es old new =
     (first written : List Cell) → StartsWith w first (drive old.start) → AreWritten s h old written
     → LeavesNow (drive new.disk) (RecoversWith w first written s.world (h ++ es))
-LeavesNowAllOrNone drive w s h es _ _ = ⊤
+
+abbrev pub LeavesNowAllOrNone : {D : Type 0} → (D → Drive) → ℕ → State → List Entry → List Entry → Option (KeptView D) → Option (KeptView D) → Type 0
+LeavesNowAllOrNone drive w s h es old new = OfLog w s h es (OwnNowAllOrNone drive w) old new
 
 -- A device call failed while the cells were added. The file may lack them and all that waited. The first of them has
 -- this number. The log takes no more cells. It keeps the history that ends with failed appends of this number which have
@@ -253,3 +320,19 @@ pub record NotSynced {D : Type 0} (drive : D → Drive) (number : ℕ) (old new 
 -- all.
 abbrev pub LeavesSynced : {D : Type 0} → (D → Drive) → Option (KeptView D) → Option (KeptView D) → Type 0
 LeavesSynced drive old new = (w : ℕ) (s : State) (h : List Entry) → IsLegal w s h → KeepsIn drive w s h old → LeavesAllOrNone drive w s h [] old new
+
+-- The log takes no more cells, and no device call was made. It keeps the history that ends with a failed append of this
+-- number, if the append has lost no cell.
+pub record Stops {D : Type 0} (drive : D → Drive) (number : ℕ) (old new : Option (KeptView D)) : Type 0 where
+  pub named : number ≡ written_in old
+  pub count : cells_in new ≡ cells_in old
+  pub written : written_in new ≡ written_in old
+  pub closed : failed_in new ≡ Some number
+  pub disk : disk_in new ≡ disk_in old
+  pub keeps : (w : ℕ) (s : State) (h : List Entry) (lost : Lost) → IsLegal w s h → lost_cells lost ≡ [] → KeepsIn drive w s h old
+      → KeepsIn drive w s (h ++ Fail number lost ∷ []) new
+
+-- The log was stopped with this number, if there is one.
+abbrev pub StopsIn : {D : Type 0} → (D → Drive) → Option ℕ → Option (KeptView D) → Option (KeptView D) → Type 0
+StopsIn drive None old new = (old ≡ None) × (new ≡ None)
+StopsIn drive (Some number) old new = Stops drive number old new

@@ -1,4 +1,5 @@
 pub mod KeptView
+pub mod Moved
 pub mod Kept
 pub mod Steps
 pub mod Journal

@@ -18,8 +18,17 @@ pub record AreNext (w : ℕ) (s : State) (h es : List Entry) (more : List Cell) 
   pub sound : failed_cell es ≡ None
   pub cells : cells_of (world_after s.world h) es ≡ more
 
--- Both come from the same opening, and cells are added in the same way.
+-- Both come from the same opening, and cells are added in the same way. No log has replaced another one in between.
 pub record IsSince {D : Type 0} (old new : KeptView D) : Type 0 where
   pub start : new.start ≡ old.start
   pub first : new.first ≡ old.first
   pub at_sync : new.at_sync ≡ old.at_sync
+  pub moves : new.moves ≡ old.moves
+  pub earlier : new.earlier ≡ old.earlier
+
+-- The new log may be another one. Both come from the same first opening, and cells are added in the same way.
+pub record IsMovedFrom {D : Type 0} (old new : KeptView D) : Type 0 where
+  pub start : new.start ≡ old.start
+  pub first : new.first ≡ old.first
+  pub at_sync : new.at_sync ≡ old.at_sync
+  pub moves : new.moves ≡ old.moves

@@ -5,8 +5,7 @@ ghost use Rattle.cell_format.specs.declared.cell.Cell.{Cell};
 ghost use Rattle.split_log.specs.LogText.{IsLog, HoldsAllOrNone};
 ghost use Rattle.split_log.specs.LogView.{most_cells};
 ghost use Rattle.split_log.specs.Waiting.{most_waiting};
-ghost use Rattle.split_log.specs.Append.{AddsAll, AllFail};
-ghost use Rattle.kept_log.specs.Holding.{AllFailed, HeldOrAdded};
+ghost use Rattle.kept_log.specs.Holding.{FileAdds, FileFails, AllFailed, HeldOrAdded};
 
 use crate::faults::{AppendAllLost, AppendLost};
 use cell_format::Cell;
@@ -21,8 +20,8 @@ pub(crate) fn append_now<D: LogDisk>(log: &mut SplitLog<D>, cell: &Cell) -> Resu
 
     ensures any_moment { (w : ℕ) (cells : List Cell) → IsLog w cells (D.drive log.old.disk)
         → LeavesOnly (D.drive log.old.disk) (D.drive log.new.disk) (HoldsAllOrNone w cells (cell.now ∷ [])) }
-    ensures ok { OnOk result (AddsAll (cell.now ∷ []) log.old.cells log.new.cells log.new.failed (D.drive log.old.disk) (D.drive log.new.disk)) }
-    ensures lost { IfErr result (λ e. AllFail (cell.now ∷ []) e.cell log.old.cells log.new.cells log.new.failed (D.drive log.old.disk) (D.drive log.new.disk)) }
+    ensures ok { OnOk result (FileAdds D.drive (cell.now ∷ []) log.old log.new) }
+    ensures lost { IfErr result (λ e. FileFails D.drive (cell.now ∷ []) e.cell log.old log.new) }
     ensures later { (D.drive log.old.disk).faults ≤ (D.drive log.new.disk).faults }
 {
     match log.append(cell) {
@@ -43,7 +42,7 @@ pub(crate) fn append_all_now<D: LogDisk>(
 
     ensures any_moment { (w : ℕ) (before : List Cell) → IsLog w before (D.drive log.old.disk)
         → LeavesOnly (D.drive log.old.disk) (D.drive log.new.disk) (HoldsAllOrNone w before cells.now) }
-    ensures ok { OnOk result (AddsAll cells.now log.old.cells log.new.cells log.new.failed (D.drive log.old.disk) (D.drive log.new.disk)) }
+    ensures ok { OnOk result (FileAdds D.drive cells.now log.old log.new) }
     ensures lost { IfErr result (λ e. AllFailed D.drive cells.now e log.old log.new) }
     ensures later { (D.drive log.old.disk).faults ≤ (D.drive log.new.disk).faults }
 {
@@ -62,8 +61,8 @@ pub(crate) fn write<D: LogDisk>(log: &mut SplitLog<D>, waiting: &Waiting) -> Res
 
     ensures any_moment { (w : ℕ) (before : List Cell) → IsLog w before (D.drive log.old.disk)
         → LeavesOnly (D.drive log.old.disk) (D.drive log.new.disk) (HoldsAllOrNone w before waiting.now) }
-    ensures ok { OnOk result (AddsAll waiting.now log.old.cells log.new.cells log.new.failed (D.drive log.old.disk) (D.drive log.new.disk)) }
-    ensures lost { IfErr result (λ e. AllFail waiting.now e.cell log.old.cells log.new.cells log.new.failed (D.drive log.old.disk) (D.drive log.new.disk)) }
+    ensures ok { OnOk result (FileAdds D.drive waiting.now log.old log.new) }
+    ensures lost { IfErr result (λ e. FileFails D.drive waiting.now e.cell log.old log.new) }
     ensures later { (D.drive log.old.disk).faults ≤ (D.drive log.new.disk).faults }
 {
     match log.append_waiting(waiting) {
@@ -86,7 +85,7 @@ pub(crate) fn hold<D: LogDisk>(
     ensures any_moment { (w : ℕ) (before : List Cell) → IsLog w before (D.drive log.old.disk)
         → LeavesOnly (D.drive log.old.disk) (D.drive log.new.disk) (HoldsAllOrNone w before (waiting.old ++ cell.now ∷ [])) }
     ensures ok { OnOk result (HeldOrAdded D.drive (waiting.old ++ cell.now ∷ []) waiting.new log.old log.new) }
-    ensures lost { IfErr result (λ e. AllFail (waiting.old ++ cell.now ∷ []) e.cell log.old.cells log.new.cells log.new.failed (D.drive log.old.disk) (D.drive log.new.disk)
+    ensures lost { IfErr result (λ e. FileFails D.drive (waiting.old ++ cell.now ∷ []) e.cell log.old log.new
         × (waiting.new ≡ waiting.old)) }
     ensures later { (D.drive log.old.disk).faults ≤ (D.drive log.new.disk).faults }
     ensures few { length waiting.new ≤ most_waiting }
@@ -143,8 +142,8 @@ pub(crate) fn release<D: LogDisk>(
 
     ensures any_moment { (w : ℕ) (before : List Cell) → IsLog w before (D.drive log.old.disk)
         → LeavesOnly (D.drive log.old.disk) (D.drive log.new.disk) (HoldsAllOrNone w before waiting.old) }
-    ensures ok { OnOk result ((waiting.new ≡ []) × AddsAll waiting.old log.old.cells log.new.cells log.new.failed (D.drive log.old.disk) (D.drive log.new.disk)) }
-    ensures lost { IfErr result (λ e. AllFail waiting.old e.cell log.old.cells log.new.cells log.new.failed (D.drive log.old.disk) (D.drive log.new.disk)
+    ensures ok { OnOk result ((waiting.new ≡ []) × FileAdds D.drive waiting.old log.old log.new) }
+    ensures lost { IfErr result (λ e. FileFails D.drive waiting.old e.cell log.old log.new
         × (waiting.new ≡ waiting.old)) }
     ensures later { (D.drive log.old.disk).faults ≤ (D.drive log.new.disk).faults }
     ensures few { length waiting.new ≤ length waiting.old }

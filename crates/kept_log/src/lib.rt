@@ -10,6 +10,8 @@
 //!   history that ends with the failed appends of the batch's changes.
 //! - After `at_sync` cells wait in memory, and `sync` adds all of them by one append. A crash leaves the cells that were
 //!   written: a prefix of the history's cells.
+//! - `move_to` goes on with a fresh log in place of the log, in the middle of the history. From then on a crash leaves what
+//!   the fresh log has: the cells of the objects and leaves of that time, and those of the entries after it.
 //! - Without a log nothing is kept, and no append fails.
 //! - An append requires room in the log, so a cell is added unless the drive fails. `append_all` may also lack memory.
 //!
@@ -19,7 +21,10 @@
 mod faults;
 mod holding;
 mod journal;
+mod lessening;
+mod past;
 mod sending;
 
 pub use faults::{AppendAllLost, AppendLost};
 pub use journal::Journal;
+pub use past::Past;

@@ -1,72 +1,84 @@
 use Rattle.std.proofs.Common.{◌<◌, ◌+◌, ◌∷◌, [], length, true, is_some, refl, sym, ◌∙◌, ap, subst, arith, length-append}
 use Rattle.std.proofs.lemmas.Result.{on_ok_weaker, IfErr-weaker}
 use Rattle.split_log.specs.LogView.{most_cells}
-use Rattle.kept_log.specs.KeptView.{KeptView, waiting_of}
+use Rattle.kept_log.specs.KeptView.{KeptView, waiting_of, own_of}
 use Rattle.kept_log.proofs.BatchLemmas.{leaves-now, added-now, missed-now, leaves-held, added-held, missed-held, added-one, missed-one, leaves-one}
 use Rattle.kept_log.proofs.journal.Kept.append.Goals as goal
 
 pub returns-in-None-clause-ok : goal.returns-in-None-clause-ok
 returns-in-None-clause-ok g c =
+    let inside = c.self.inside in
+    let old = own_of inside.log inside.start.value inside.first.value (waiting_of inside.waiting) (is_some inside.waiting) inside.moves in
+    let new = own_of c.append_now.new.log inside.start.value inside.first.value (waiting_of inside.waiting) (is_some inside.waiting) inside.moves in
     let none = ap waiting_of c.in-None.is in
     let room = subst (λ (v : KeptView g.row.D.Denot). v.cells + length v.waiting < most_cells) (sym c.self.view_is) c.requires.room in
     rw (← c.self.view_is)
-    (on_ok_weaker c.append_now.result (λ adds. added-one g.D.LogDisk.drive c.args.cell.now _ _
-    (added-now g.D.LogDisk.drive (c.args.cell.now ∷ []) _ _ (ap (λ v. v.failed) c.self.view_is ∙ c.requires.open) none refl (omega (arith, room, ap length none))
-    (record { start = refl; first = refl; at_sync = refl }) c.append_now.ensures.later c.append_now.ensures.any_moment adds)) c.append_now.ensures.ok)
+    (on_ok_weaker c.append_now.result (λ adds. added-one g.D.LogDisk.drive c.args.cell.now old new
+    (added-now g.D.LogDisk.drive (c.args.cell.now ∷ []) old new (ap (λ v. v.failed) c.self.view_is ∙ c.requires.open) none refl (omega (arith, room, ap length none))
+    (record { start = refl; first = refl; at_sync = refl; moves = refl; earlier = refl }) c.append_now.ensures.later c.append_now.ensures.any_moment adds)) c.append_now.ensures.ok)
 
 pub returns-in-None-clause-lost : goal.returns-in-None-clause-lost
 returns-in-None-clause-lost g c =
+    let inside = c.self.inside in
+    let old = own_of inside.log inside.start.value inside.first.value (waiting_of inside.waiting) (is_some inside.waiting) inside.moves in
+    let new = own_of c.append_now.new.log inside.start.value inside.first.value (waiting_of inside.waiting) (is_some inside.waiting) inside.moves in
     let none = ap waiting_of c.in-None.is in
     let room = subst (λ (v : KeptView g.row.D.Denot). v.cells + length v.waiting < most_cells) (sym c.self.view_is) c.requires.room in
     rw (← c.self.view_is)
-    (IfErr-weaker c.append_now.result _ _ (λ e fails. missed-one g.D.LogDisk.drive c.args.cell.now _ _ e.cell
-    (missed-now g.D.LogDisk.drive (c.args.cell.now ∷ []) _ _ (ap (λ v. v.failed) c.self.view_is ∙ c.requires.open) none refl (omega (arith, room, ap length none))
-    (record { start = refl; first = refl; at_sync = refl }) c.append_now.ensures.later c.append_now.ensures.any_moment e.cell fails)) c.append_now.ensures.lost)
+    (IfErr-weaker c.append_now.result _ _ (λ e fails. missed-one g.D.LogDisk.drive c.args.cell.now old new e.cell
+    (missed-now g.D.LogDisk.drive (c.args.cell.now ∷ []) old new (ap (λ v. v.failed) c.self.view_is ∙ c.requires.open) none refl (omega (arith, room, ap length none))
+    (record { start = refl; first = refl; at_sync = refl; moves = refl; earlier = refl }) c.append_now.ensures.later c.append_now.ensures.any_moment e.cell fails)) c.append_now.ensures.lost)
 
 pub returns-in-None-clause-any_moment : goal.returns-in-None-clause-any_moment
 returns-in-None-clause-any_moment g c =
-    let none = ap waiting_of c.in-None.is in
     let inside = c.self.inside in
-    let log = c.append_now.new.log in
-    let new : KeptView g.row.D.Denot = record { disk = log.disk; cells = log.cells; failed = log.failed; start = inside.start.value; first = inside.first.value; waiting = waiting_of inside.waiting; at_sync = is_some inside.waiting } in
+    let old = own_of inside.log inside.start.value inside.first.value (waiting_of inside.waiting) (is_some inside.waiting) inside.moves in
+    let new = own_of c.append_now.new.log inside.start.value inside.first.value (waiting_of inside.waiting) (is_some inside.waiting) inside.moves in
+    let none = ap waiting_of c.in-None.is in
     let room = subst (λ (v : KeptView g.row.D.Denot). v.cells + length v.waiting < most_cells) (sym c.self.view_is) c.requires.room in
     rw (← c.self.view_is)
-    (leaves-one g.D.LogDisk.drive c.args.cell.now _ new
-    (leaves-now g.D.LogDisk.drive (c.args.cell.now ∷ []) _ new (ap (λ v. v.failed) c.self.view_is ∙ c.requires.open) none refl (omega (arith, room, ap length none))
-    (record { start = refl; first = refl; at_sync = refl }) c.append_now.ensures.later c.append_now.ensures.any_moment))
+    (leaves-one g.D.LogDisk.drive c.args.cell.now old new
+    (leaves-now g.D.LogDisk.drive (c.args.cell.now ∷ []) old new (ap (λ v. v.failed) c.self.view_is ∙ c.requires.open) none refl (omega (arith, room, ap length none))
+    (record { start = refl; first = refl; at_sync = refl; moves = refl; earlier = refl }) c.append_now.ensures.later c.append_now.ensures.any_moment))
 
 pub returns-in-Some-clause-ok : goal.returns-in-Some-clause-ok
 returns-in-Some-clause-ok g c =
+    let inside = c.self.inside in
+    let old = own_of inside.log inside.start.value inside.first.value (waiting_of inside.waiting) (is_some inside.waiting) inside.moves in
+    let new = own_of c.hold.new.log inside.start.value inside.first.value (c.hold.new.waiting) (true) inside.moves in
     let held = ap waiting_of c.in-Some.is in
     let waits = ap is_some c.in-Some.is in
     let room = subst (λ (v : KeptView g.row.D.Denot). v.cells + length v.waiting < most_cells) (sym c.self.view_is) c.requires.room in
     rw (← c.self.view_is)
-    (on_ok_weaker c.hold.result (λ is. added-one g.D.LogDisk.drive c.args.cell.now _ _
-    (added-held g.D.LogDisk.drive (c.args.cell.now ∷ []) _ _ (ap (λ v. v.failed) c.self.view_is ∙ c.requires.open) _ held waits
+    (on_ok_weaker c.hold.result (λ is. added-one g.D.LogDisk.drive c.args.cell.now old new
+    (added-held g.D.LogDisk.drive (c.args.cell.now ∷ []) old new (ap (λ v. v.failed) c.self.view_is ∙ c.requires.open) _ held waits
     (omega (arith, room, ap length held, length-append c.in-Some.waiting (c.args.cell.now ∷ [])))
-    (record { start = refl; first = refl; at_sync = sym waits }) c.hold.ensures.later c.hold.ensures.any_moment is)) c.hold.ensures.ok)
+    (record { start = refl; first = refl; at_sync = sym waits; moves = refl; earlier = refl }) c.hold.ensures.later c.hold.ensures.any_moment is)) c.hold.ensures.ok)
 
 pub returns-in-Some-clause-lost : goal.returns-in-Some-clause-lost
 returns-in-Some-clause-lost g c =
+    let inside = c.self.inside in
+    let old = own_of inside.log inside.start.value inside.first.value (waiting_of inside.waiting) (is_some inside.waiting) inside.moves in
+    let new = own_of c.hold.new.log inside.start.value inside.first.value (c.hold.new.waiting) (true) inside.moves in
     let held = ap waiting_of c.in-Some.is in
     let waits = ap is_some c.in-Some.is in
     let room = subst (λ (v : KeptView g.row.D.Denot). v.cells + length v.waiting < most_cells) (sym c.self.view_is) c.requires.room in
     rw (← c.self.view_is)
-    (IfErr-weaker c.hold.result _ _ (λ e fails. missed-one g.D.LogDisk.drive c.args.cell.now _ _ e.cell
-    (missed-held g.D.LogDisk.drive (c.args.cell.now ∷ []) _ _ (ap (λ v. v.failed) c.self.view_is ∙ c.requires.open) _ held waits
+    (IfErr-weaker c.hold.result _ _ (λ e fails. missed-one g.D.LogDisk.drive c.args.cell.now old new e.cell
+    (missed-held g.D.LogDisk.drive (c.args.cell.now ∷ []) old new (ap (λ v. v.failed) c.self.view_is ∙ c.requires.open) _ held waits
     (omega (arith, room, ap length held, length-append c.in-Some.waiting (c.args.cell.now ∷ [])))
-    (record { start = refl; first = refl; at_sync = sym waits }) c.hold.ensures.later c.hold.ensures.any_moment e.cell fails.0 fails.1)) c.hold.ensures.lost)
+    (record { start = refl; first = refl; at_sync = sym waits; moves = refl; earlier = refl }) c.hold.ensures.later c.hold.ensures.any_moment e.cell fails.0 fails.1)) c.hold.ensures.lost)
 
 pub returns-in-Some-clause-any_moment : goal.returns-in-Some-clause-any_moment
 returns-in-Some-clause-any_moment g c =
+    let inside = c.self.inside in
+    let old = own_of inside.log inside.start.value inside.first.value (waiting_of inside.waiting) (is_some inside.waiting) inside.moves in
+    let new = own_of c.hold.new.log inside.start.value inside.first.value (c.hold.new.waiting) (true) inside.moves in
     let held = ap waiting_of c.in-Some.is in
     let waits = ap is_some c.in-Some.is in
-    let inside = c.self.inside in
-    let log = c.hold.new.log in
-    let new : KeptView g.row.D.Denot = record { disk = log.disk; cells = log.cells; failed = log.failed; start = inside.start.value; first = inside.first.value; waiting = c.hold.new.waiting; at_sync = true } in
     let room = subst (λ (v : KeptView g.row.D.Denot). v.cells + length v.waiting < most_cells) (sym c.self.view_is) c.requires.room in
     rw (← c.self.view_is)
-    (leaves-one g.D.LogDisk.drive c.args.cell.now _ new
-    (leaves-held g.D.LogDisk.drive (c.args.cell.now ∷ []) _ new (ap (λ v. v.failed) c.self.view_is ∙ c.requires.open) _ held waits
+    (leaves-one g.D.LogDisk.drive c.args.cell.now old new
+    (leaves-held g.D.LogDisk.drive (c.args.cell.now ∷ []) old new (ap (λ v. v.failed) c.self.view_is ∙ c.requires.open) _ held waits
     (omega (arith, room, ap length held, length-append c.in-Some.waiting (c.args.cell.now ∷ [])))
-    (record { start = refl; first = refl; at_sync = sym waits }) c.hold.ensures.later c.hold.ensures.any_moment))
+    (record { start = refl; first = refl; at_sync = sym waits; moves = refl; earlier = refl }) c.hold.ensures.later c.hold.ensures.any_moment))
