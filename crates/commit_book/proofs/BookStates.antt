@@ -23,7 +23,7 @@ use Rattle.plain_list.proofs.Histories.{has_failed, state_after-append, state_af
 use Rattle.disk_trait.specs.Drive.{Drive}
 use Rattle.kept_log.specs.Journal.{KeepsIn, IsSinceIn, cells_in}
 use Rattle.kept_log.specs.Counts.{first_in, count_after}
-use Rattle.kept_log.proofs.Waiting.{in-named, in-count}
+use Rattle.kept_log.proofs.Waiting.{in-named}
 use Rattle.commit_book.specs.BookInside.{IsInside, book_of}
 use Rattle.point_table.specs.Changes.{bases_of}
 use Rattle.point_table.specs.Divisions.{Folds, Divides}
@@ -33,7 +33,7 @@ use Rattle.commit_book.specs.KeptBases.{KeepsBase}
 use Rattle.commit_book.specs.Room.{most_events_to_begin, most_cells_to_begin, has_no_room, BeginsInRoom}
 use Rattle.commit_book.specs.declared.book.Book.TheInside.{Inside}
 use Rattle.commit_book.proofs.BookSteps.{same_names}
-use Rattle.commit_book.proofs.OnLog.{in-first}
+use Rattle.commit_book.proofs.OnLog.{in-counted, in-first}
 use Rattle.commit_book.proofs.Limits.{begin-less}
 use Rattle.commit_book.proofs.KeptLemmas.{KeepsBases-push, BeginsInRoom-push, KeepsBase-bases, KeepsBase-begun, KeepsBase-replaced, KeepsBase-split}
 use Rattle.plain_list.proofs.SplitHistories.{tidy-history, begun-number}
@@ -153,7 +153,8 @@ module _ {I D P : Type 0} (drive : D → Drive) (w : ℕ) (o : State) (old new :
       }
     where
       there_was_room : has_no_room old.history.kept (count_after (first_in old.journal) o.world h) (length h) ≡ false
-      there_was_room = ap (λ n. has_no_room old.history.kept n (length h)) (sym (in-count drive w o h old.journal inside.on_log)) ∙ in_room old.history.kept (cells_in old.journal) (length h) cells few
+      there_was_room =
+          in_room old.history.kept (count_after (first_in old.journal) o.world h) (length h) (omega (arith, in-counted drive w o h old.journal inside.on_log, cells)) few
 
       same_begin : (n : ℕ) (nm : List Bool) → Begin n nm ≡ Begin (old.splits.begun + 1) name → nm ≡ name
       same_begin n nm is = cc is

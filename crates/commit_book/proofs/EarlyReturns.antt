@@ -23,7 +23,7 @@ use Rattle.commit_book.specs.declared.faults.BookFault.TheVariants.{Closed, Disk
 -- a log that nobody touched has the same opening
 pub since-same : {D : Type 0} (log : Option (KeptView D)) → IsSinceIn log log
 since-same None = tt
-since-same (Some kept) = record { start = refl; first = refl; at_sync = refl }
+since-same (Some kept) = record { start = refl; first = refl; at_sync = refl; moves = refl; earlier = refl }
 
 -- a book that stayed as it was
 pub same_books : {D : Type 0} (drive : D → Drive) (w : ℕ) (old new : BookView D) → new ≡ old → IsBook drive w old → AreBooks drive w old new

@@ -5,6 +5,7 @@ pub mod FoundStates
 pub mod KeptLemmas
 pub mod LastChanges
 pub mod Limits
+pub mod Moved
 pub mod OnLog
 pub mod RefusalLemmas
 pub mod Rotations

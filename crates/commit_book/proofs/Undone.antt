@@ -20,7 +20,7 @@ use Rattle.log_state.specs.Changes.{lost_cells}
 use Rattle.kept_log.specs.KeptView.{KeptView}
 use Rattle.kept_log.specs.Journal.{cells_in, written_in, KeepsIn, RoseIn, LeavesEither, IsSinceIn}
 use Rattle.kept_log.proofs.InJournal.{in-call, leaves-quiet}
-use Rattle.kept_log.proofs.Waiting.{in-failed}
+use Rattle.kept_log.proofs.Waiting.{in-failed, in-most}
 use Rattle.point_table.specs.TableView.{TableView}
 use Rattle.point_table.specs.Updates.{TellsIf}
 use Rattle.commit_book.specs.BookInside.{IsInside, book_of}
@@ -35,7 +35,6 @@ use Rattle.commit_book.specs.declared.steps.Step.{Step}
 use Rattle.commit_book.proofs.BookStates.{inside-fail}
 use Rattle.commit_book.proofs.EarlyReturns.{since-same}
 use Rattle.commit_book.proofs.Limits.{most-le}
-use Rattle.commit_book.proofs.OnLog.{in-most}
 use Rattle.commit_book.proofs.UpdateCalls.{fewer_cells}
 
 -- a book that took memory, or had none, with room for an entry of each open split

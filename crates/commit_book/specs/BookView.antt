@@ -27,9 +27,20 @@ next_number w b = (state_after w b.opening b.entries).begun + 1
 abbrev pub StandsAfter : {D : Type 0} → ℕ → BookView D → List Leaf → Type 0
 StandsAfter w b leaves = Stands leaves (places_of (world_after b.opening.world b.entries)) (state_after w b.opening b.entries).leaves
 
--- a log as it was opened on this drive, with no record more: each record is written at once
+-- A log as it was opened on this drive, with no record more. Each record is written at once, and no fresh log may replace
+-- it.
 abbrev pub first_log : {D : Type 0} → LogView D → D → KeptView D
-first_log log start = record { disk = log.disk; cells = log.cells; failed = None; start = start; first = log.cells; waiting = []; at_sync = false }
+first_log log start = record {
+  disk = log.disk;
+  cells = log.cells;
+  failed = None;
+  start = start;
+  first = log.cells;
+  waiting = [];
+  at_sync = false;
+  moves = false;
+  earlier = None;
+}
 
 -- the list that is left of a history: the whole history if the list is kept, and else no entry
 abbrev pub list_in : Bool → List Entry → List Entry

@@ -5,7 +5,7 @@ use Rattle.plain_list.specs.State.{State, ComesBySplits, IsLegal, state_after}
 use Rattle.plain_list.specs.History.{world_after, failed_cell}
 use Rattle.index_layer.specs.Stands.{Stands}
 use Rattle.disk_trait.specs.Drive.{Drive}
-use Rattle.kept_log.specs.Journal.{written_in, KeepsIn, IsSinceIn}
+use Rattle.kept_log.specs.Journal.{written_in, KeepsIn, IsSinceIn, IsMovedFromIn}
 use Rattle.kept_log.specs.Counts.{first_in}
 use Rattle.commit_book.specs.BookView.{BookView}
 use Rattle.commit_book.specs.KeptBases.{KeepsBases}
@@ -48,8 +48,21 @@ pub record SameOrigin {D : Type 0} (old new : BookView D) : Type 0 where
   pub log : IsSinceIn old.log new.log
   pub kept : new.kept ≡ old.kept
 
+-- The same origin, of books between which a fresh log may have replaced the log. The first opening of the log is the same.
+pub record SameMoved {D : Type 0} (old new : BookView D) : Type 0 where
+  pub opening : new.opening ≡ old.opening
+  pub bucket : new.bucket ≡ old.bucket
+  pub log : IsMovedFromIn old.log new.log
+  pub kept : new.kept ≡ old.kept
+
 -- both are books, before a call and after it
 pub record AreBooks {D : Type 0} (drive : D → Drive) (w : ℕ) (old new : BookView D) : Type 0 where
   pub before : IsBook drive w old
   pub after : IsBook drive w new
   pub origin : SameOrigin old new
+
+-- both are books, before a fresh log replaces the log and after it
+pub record AreMovedBooks {D : Type 0} (drive : D → Drive) (w : ℕ) (old new : BookView D) : Type 0 where
+  pub before : IsBook drive w old
+  pub after : IsBook drive w new
+  pub origin : SameMoved old new

@@ -8,6 +8,7 @@ pub mod Events
 pub mod History
 pub mod IsBook
 pub mod KeptBases
+pub mod Moves
 pub mod OpenedLog
 pub mod Refusals
 pub mod RoomLeft

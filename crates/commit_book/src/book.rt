@@ -19,6 +19,7 @@ ghost use Rattle.commit_book.specs.Refusals.{IsRefusedBy, IsMemory, IsMemoryOrDi
 ghost use Rattle.commit_book.specs.Rotation.{book_on};
 
 mod batches;
+mod moving;
 mod room;
 mod rotation;
 mod splits;
@@ -34,6 +35,7 @@ pub use batches::BatchDone;
 use disk_trait::LogDisk;
 use index_layer::Index;
 use kept_log::Journal;
+pub use moving::NotMoved;
 use plain_list::{Answer, Entries, Entry, Lost, Op};
 use point_table::PointTable;
 use recovery::Opened;

@@ -1,5 +1,5 @@
 //! The entries of a run. Their list is kept, with memory for those that are promised, or only their counts are.
-ghost use Rattle.std.specs.Prelude.{◌≡◌, ◌+◌, ◌-◌, ◌<◌, ◌≤◌, ◌∷◌, ◌++◌, ◌^◌, false, [], if◌then◌else◌, OnOk, OnErr, length, vec_len, vec_capacity};
+ghost use Rattle.std.specs.Prelude.{◌≡◌, ◌+◌, ◌-◌, ◌<◌, ◌≤◌, ◌∷◌, ◌++◌, ◌^◌, true, false, [], if◌then◌else◌, OnOk, OnErr, length, vec_len, vec_capacity};
 ghost use Rattle.plain_list.specs.History.{call_count};
 ghost use Rattle.plain_list.specs.Batch.{batch_calls};
 ghost use Rattle.commit_book.specs.Answers.{is_ask, is_still, is_still_since};
@@ -8,7 +8,7 @@ ghost use Rattle.commit_book.specs.BatchSteps.{flagged_fails};
 ghost use Rattle.commit_book.specs.BookView.{list_in};
 ghost use Rattle.commit_book.specs.IsBook.{most_events};
 
-use crate::past::Past;
+use kept_log::Past;
 use plain_list::{Entry, Lost, Op};
 use std::alloc::{AllocError, Global};
 use std::marker::Model;
@@ -96,6 +96,13 @@ impl History {
         }
     }
 
+    /// All entries, for contracts alone.
+    pub(crate) fn past(&self) -> Past
+        ensures { result.entries ≡ self.now.entries }
+    {
+        Past::same(&self.past)
+    }
+
     /// How many entries are calls.
     pub(crate) fn calls(&self) -> u64
         ensures { result ≡ call_count self.now.entries }
@@ -115,6 +122,7 @@ impl History {
         requires { length self.old.entries + entries < 2 ^ 63 }
         ensures ok { OnOk result (self.new ≡ record self.old { room = entries }) }
         ensures err { OnErr result (self.new ≡ self.old) }
+        ensures listed { OnErr result (self.old.kept ≡ true) }
     {
         if self.kept {
             self.list.reserve(entries)?;

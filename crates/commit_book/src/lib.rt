@@ -28,6 +28,9 @@
 //! continues on that log, with an empty history. `anew` and `rotate_anew` do the same with fresh leaves, those that the
 //! bucket size requires.
 //!
+//! After `may_move` a fresh log with the book's objects and leaves may replace the log, by `move_log`. The history and its
+//! places then go on. The fresh log keeps only what comes after.
+//!
 //! Not here: the objects by id and by key (`point_table`), how a log is opened (`recovery`), how a bucket is cut
 //! (`split_prepare`). Which thread may call, and when, is in `book_lock`.
 #![tactic(auto)]
@@ -38,13 +41,12 @@ mod faults;
 mod history;
 mod open_splits;
 mod opening;
-mod past;
 mod sending;
 mod steps;
 
 pub use book::{
     Anew, BatchDone, Book, BookParts, Content, Done, MOST_CELLS_TO_BEGIN, MOST_EVENTS,
-    MOST_EVENTS_TO_BEGIN, MOST_EVENTS_TO_BEGIN_UNLISTED, MOST_EVENTS_UNLISTED, Replaced, Room,
-    Snapshot,
+    MOST_EVENTS_TO_BEGIN, MOST_EVENTS_TO_BEGIN_UNLISTED, MOST_EVENTS_UNLISTED, NotMoved, Replaced,
+    Room, Snapshot,
 };
-pub use faults::BookFault;
+pub use faults::{BookFault, MoveFault};

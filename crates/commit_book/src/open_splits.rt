@@ -1,6 +1,7 @@
 //! The splits that have begun and not ended.
 ghost use Rattle.std.specs.Prelude.{◌≡◌, ◌+◌, ◌-◌, ◌<◌, ◌^◌, ◌++◌, ◌∷◌, [], OnOk, length};
 ghost use Rattle.plain_list.specs.State.{split_name, without_number};
+ghost use Rattle.commit_book.specs.Moves.{first_open};
 ghost use Rattle.commit_book.specs.Refusals.{split_number, is_open};
 ghost use Rattle.point_table.specs.Splits.{splits_of};
 
@@ -53,6 +54,13 @@ impl OpenSplits {
         ensures { result ≡ length self.now.splits }
     {
         self.splits.len()
+    }
+
+    /// The number of the split that began first of those that are open.
+    pub(crate) fn first(&self) -> Option<u64>
+        ensures { result ≡ first_open self.now.splits }
+    {
+        first_among(&self.splits)
     }
 
     /// The number of the open split of this name.
@@ -128,6 +136,15 @@ impl OpenSplits {
     {
         self.room = 0;
         self.splits.retain(|s| s.number != number);
+    }
+}
+
+fn first_among(splits: &[Begun]) -> Option<u64>
+    ensures { result ≡ first_open (splits_of splits.now) }
+{
+    match splits.first() {
+        Some(split) => Some(split.number),
+        None => None,
     }
 }
 

@@ -21,7 +21,12 @@ impl<I: Index> Model for Opening<I> {
 
     ghost Value = { State };
 
-    ghost view = { λ o. record { world = o.table.value.world; leaves = names_of o.table.value.leaves; splits = []; begun = o.begun.value } };
+    ghost view = { λ o. record {
+      world = o.table.value.world;
+      leaves = names_of o.table.value.leaves;
+      splits = [];
+      begun = o.begun.value;
+    } };
 }
 
 impl<I: Index> Opening<I> {

@@ -57,7 +57,8 @@ impl<I: Index, D: LogDisk> Book<I, D> {
         ensures ok { IfOk result (Syncs self.old self.new) }
         ensures refused { IsRefusedBy IsMemoryOrDisk (call_refusal self.old.kept self.old.entries) result }
         ensures err { IfErr result (LeavesRefused D.drive lost_sync self.old self.new) }
-        ensures quiet { waiting_in self.old.log ≡ [] → (self.new ≡ self.old) × IsRefusedBy IsNoFault (call_refusal self.old.kept self.old.entries) result }
+        ensures quiet { waiting_in self.old.log ≡ [] → (self.new ≡ self.old)
+            × IsRefusedBy IsNoFault (call_refusal self.old.kept self.old.entries) result }
         ensures any_moment { LeavesAllCells D.drive I.WIDTH [] self.old self.new }
         ensures book { AreBooks D.drive I.WIDTH self.old self.new }
     {

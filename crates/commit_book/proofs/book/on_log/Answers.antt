@@ -1,4 +1,4 @@
-use Rattle.std.proofs.Common.{◌≡◌, ◌≤◌, false, [], Some, sym, ap, ◌∙◌, subst, arith}
+use Rattle.std.proofs.Common.{◌≡◌, ◌≤◌, false, [], Some, None, sym, ap, ◌∙◌, subst, arith}
 use Rattle.plain_list.specs.State.{State, ComesBySplits}
 use Rattle.kept_log.specs.Journal.{KeepsIn}
 use Rattle.kept_log.specs.Kept.{found_state}
@@ -31,7 +31,7 @@ returns g c =
     let start = c.args.opened.start.value in
     let same : c.of.result ≡ found_state c.args.opened.seen =
     c.of.ensures ∙ (λ i. record { world = c.requires.world i; leaves = c.requires.leaves i; splits = []; begun = c.args.opened.seen.begun }) in
-    let journal = c.opened.ensures.value ∙ (λ i. Some (record { disk = log.disk; cells = log.cells; failed = c.requires.opened.good i; start = start; first = log.cells; waiting = []; at_sync = false })) in
+    let journal = c.opened.ensures.value ∙ (λ i. Some (record { disk = log.disk; cells = log.cells; failed = c.requires.opened.good i; start = start; first = log.cells; waiting = []; at_sync = false; moves = false; earlier = None })) in
     λ i. record {
       leaves = c.args.table.leaves;
       opening = same i;

@@ -4,6 +4,7 @@ use Rattle.plain_list.specs.declared.entries.Entry.TheVariants.{Fail}
 use Rattle.plain_list.proofs.SplitHistories.{open-le}
 use Rattle.kept_log.specs.Journal.{KeepsIn}
 use Rattle.kept_log.proofs.InJournal.{leaves-still}
+use Rattle.kept_log.proofs.Waiting.{in-failed}
 use Rattle.commit_book.specs.Events.{Events}
 use Rattle.commit_book.specs.Syncs.{lost_sync}
 use Rattle.commit_book.proofs.BookStates.{inside-fail}
@@ -35,6 +36,13 @@ pub returns-in_err-reserve-clause-any_moment : goal.returns-in_err-reserve-claus
 returns-in_err-reserve-clause-any_moment g c =
     rw (← c.self.view_is)
     (leaves-still g.D.LogDisk.drive g.I.Index.WIDTH c.self.inside.opening c.self.inside.history.entries _ c.self.inside.journal g.met.D.LogDisk.keeps_laws c.self.invariant.on_log)
+
+pub sync-requires : goal.sync-requires
+sync-requires g c =
+    let b = c.self.inside in
+    let h = b.history.entries in
+    let may : MayCall b.history.kept h = may_call b.history.kept h c.self.invariant.few (passed _ _ (rw (← c.self.view_is) at c.in_ok-check_call.ensures)) in
+    record { «open» = in-failed g.D.LogDisk.drive g.I.Index.WIDTH b.opening h b.journal c.self.invariant.on_log ∙ may.going }
 
 pub invariant_of-self-in-Err : goal.invariant_of-self-in-Err
 invariant_of-self-in-Err g c =

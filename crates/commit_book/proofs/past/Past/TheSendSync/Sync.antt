@@ -1,7 +1,0 @@
--- The entries that only contracts see own nothing, so any thread may share them.
-use denote.Param.Send.{IsSync, part_keyless}
-use Rattle.commit_book.specs.contracts.past.Past.{the_row}
-use Rattle.commit_book.proofs.past.Past.TheSendSync.Send.{send}
-
-pub sync : IsSync the_row
-sync = record { shared = λ d b o κ q. part_keyless the_row send q d b o }
