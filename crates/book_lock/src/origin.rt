@@ -30,4 +30,6 @@ pub struct LogStart {
     pub faults: u64,
     /// Whether its cells wait for a sync.
     pub at_sync: bool,
+    /// Whether a fresh log in another file may replace it while the store is open.
+    pub moves: bool,
 }
