@@ -27,11 +27,11 @@ use Rattle.sessions.specs.Batches.{Applied, BatchLeaves, EndsNone, HasLost, IsAp
 use Rattle.sessions.specs.Calls.{IsCallFault, call_fault}
 use Rattle.sessions.specs.Shared.{origin_of, waits_in}
 use Rattle.sessions.specs.Splits.{SamePass}
-use Rattle.sessions.specs.Steps.{WasTaken, cells_at, has_seen}
+use Rattle.sessions.specs.Steps.{WasTaken, IsCount, has_seen}
 use Rattle.sessions.specs.declared.faults.CallFault.{CallFault}
 use Rattle.sessions.specs.declared.faults.CallFault.TheVariants as call
 use Rattle.sessions.proofs.CallLemmas.{AreCauses, causes-first, causes-if, causes-map, free-call, full-seen, refused-cause}
-use Rattle.sessions.proofs.StepLemmas.{cells-at, written-all, prefix-later, same-seen}
+use Rattle.sessions.proofs.StepLemmas.{count-taken, written-all, prefix-later, same-seen}
 
 -- One more number in a row of numbers.
 pub range_with_len-suc : (a n : ℕ) → range_with_len a (suc n) ≡ range_with_len a n ++ (a + n) ∷ []
@@ -158,11 +158,11 @@ module _ {D : Type 0} (drive : D → Drive) (w : ℕ) (b mid : BookView D) (old 
   world-is : world_after b.opening.world b.entries ≡ world_after old.origin.world took.seen
   world-is = λ i. world_after (was.origin i).world (was.entries i)
 
-  cells-is : cells_in b.log ≡ cells_at old.origin took.seen
-  cells-is = cells-at drive w b books.before ∙ (λ i. cells_at (was.origin i) (was.entries i))
+  counted-at : IsCount old.origin took.seen (cells_in b.log)
+  counted-at = count-taken drive w b old took books.before was
 
-  refused-at : (r : Result BatchDone BookFault) → IsRefusedBy IsMemoryOrDisk (batch_refusal b ops) r → IsRefusedBy IsMemoryOrDisk (batch_cause old.origin ops (cells_at old.origin took.seen) took.seen) r
-  refused-at r refused = subst (λ (o : Option BookFault). IsRefusedBy IsMemoryOrDisk o r) (λ i. batch_cause (was.origin i) ops (cells-is i) (was.entries i)) refused
+  refused-at : (r : Result BatchDone BookFault) → IsRefusedBy IsMemoryOrDisk (batch_refusal b ops) r → IsRefusedBy IsMemoryOrDisk (batch_cause old.origin ops (cells_in b.log) took.seen) r
+  refused-at r refused = subst (λ (o : Option BookFault). IsRefusedBy IsMemoryOrDisk o r) (λ i. batch_cause (was.origin i) ops (cells_in b.log) (was.entries i)) refused
 
   -- the fault is one that a call knows
   pub batch-fault : (fault : BookFault) → IsRefusedBy {A = BatchDone} IsMemoryOrDisk (batch_refusal b ops) (Err fault) → IsCallFault fault
@@ -179,7 +179,7 @@ module _ {D : Type 0} (drive : D → Drive) (w : ℕ) (b mid : BookView D) (old 
     added =
         added-all (batch_fails cell (world_after b.opening.world b.entries) session row ops) err.entries given
         ∙ ap (λ (list : World). has_added_all old took.seen (batch_fails cell list session row ops)) world-is;
-    cell_is = λ once. err.cell_is ∙ written-all drive w b books.before (ap waits_in was.origin ∙ once) ∙ cells-is;
+    cell_is = λ once still. err.cell_is ∙ written-all drive w b books.before (ap waits_in was.origin ∙ once) ∙ counted-at still;
     change = subst (λ (list : World). list_any is_change (answers_to list ops) ≡ true) world-is err.change;
   }
 
@@ -206,7 +206,9 @@ module _ {D : Type 0} (drive : D → Drive) (w : ℕ) (b mid : BookView D) (old 
         before = took.seen;
         later = was.later;
         alone = was.alone;
-        answered = applied-none (batch_cause old.origin ops (cells_at old.origin took.seen) took.seen) d (refused-at (Ok d) refused);
+        cells = cells_in b.log;
+        counted = counted-at;
+        answered = applied-none (batch_cause old.origin ops (cells_in b.log) took.seen) d (refused-at (Ok d) refused);
         leaves = (
           added-all (batch_calls session row ops) ok.entries given,
           record {
@@ -224,7 +226,9 @@ module _ {D : Type 0} (drive : D → Drive) (w : ℕ) (b mid : BookView D) (old 
     before = took.seen;
     later = was.later;
     alone = was.alone;
-    answered = applied-some (batch_cause old.origin ops (cells_at old.origin took.seen) took.seen) fault (refused-at (Err fault) refused);
+    cells = cells_in b.log;
+    counted = counted-at;
+    answered = applied-some (batch_cause old.origin ops (cells_in b.log) took.seen) fault (refused-at (Err fault) refused);
     leaves = left-all fault (batch-fault fault refused) err given;
   }
 

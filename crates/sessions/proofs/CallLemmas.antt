@@ -37,7 +37,7 @@ use Rattle.commit_book.specs.declared.faults.BookFault.TheVariants as book
 use Rattle.book_lock.specs.Pass.{Known}
 use Rattle.book_lock.specs.declared.origin.Origin.{Origin}
 use Rattle.sessions.specs.Shared.{origin_of, start_of, HasWorld}
-use Rattle.sessions.specs.Steps.{WasTaken, Says, cells_at, has_entry, has_given, Leaves}
+use Rattle.sessions.specs.Steps.{WasTaken, Says, has_entry, has_given, Leaves}
 use Rattle.sessions.specs.Opens.{leaves_seen, places_seen, Opens, OpensOf}
 use Rattle.sessions.specs.Calls.{Updates, Looks, Called, CallLeaves, HasDone, Shows, LosesChange, IsAnswered, IsCallFault, MayCome, call_cause, call_fault, next_full, told_full}
 use Rattle.sessions.specs.Splits.{SamePass}
@@ -154,7 +154,7 @@ module _ {D : Type 0} (drive : D → Drive) (w : ℕ) (b mid : BookView D) (old 
 pub record AreCauses (P : BookFault → Type 0) (o : Option BookFault) : Type 0 where
   pub each : (cause : BookFault) → o ≡ Some cause → P cause
 
-causes-none : (P : BookFault → Type 0) → AreCauses P None
+pub causes-none : (P : BookFault → Type 0) → AreCauses P None
 causes-none P = record { each = λ cause is. absurd (cc is) }
 
 causes-some : (P : BookFault → Type 0) (c : BookFault) → P c → AreCauses P (Some c)
@@ -322,8 +322,8 @@ module _ (w session row : ℕ) (op : Op) (old new : Known) where
   pub change-fault : (fault : BookFault) → Updates w session row op old new (Err fault) → IsCallFault fault
   change-fault fault updates =
       let step = updates.step in
-      let full : Bool = ((cells_at old.origin step.before) == most_cells) && is_change (answer_of (world_after old.origin.world step.before) op) in
-      refused-cause Done IsMemoryOrDisk IsCallFault (call_cause old.origin op (cells_at old.origin step.before) step.before) fault
+      let full : Bool = (step.cells == most_cells) && is_change (answer_of (world_after old.origin.world step.before) op) in
+      refused-cause Done IsMemoryOrDisk IsCallFault (call_cause old.origin op step.cells step.before) fault
       (causes-first IsCallFault (call_refusal old.origin.kept step.before) (cond full (Some book.LogFull) None) (call-causes IsCallFault old.origin.kept step.before (λ n. tt) tt) (causes-if IsCallFault full book.LogFull tt)) (free-call fault) step.refused
 
   pub change-ok : (done : Done) → Updates w session row op old new (Ok done) → Called w session row op old new (Ok done)
@@ -331,7 +331,9 @@ module _ (w session row : ℕ) (op : Op) (old new : Known) where
     before = updates.step.before;
     later = updates.step.later;
     alone = updates.step.alone;
-    answered = answered-ok IsMemoryOrDisk op (call_cause old.origin op (cells_at old.origin updates.step.before) updates.step.before) done (Ok done) updates.step.refused tt;
+    cells = updates.step.cells;
+    counted = updates.step.counted;
+    answered = answered-ok IsMemoryOrDisk op (call_cause old.origin op updates.step.cells updates.step.before) done (Ok done) updates.step.refused tt;
     leaves = (updates.step.leaves, updates.step.says);
   }
 
@@ -340,7 +342,9 @@ module _ (w session row : ℕ) (op : Op) (old new : Known) where
     before = updates.step.before;
     later = updates.step.later;
     alone = updates.step.alone;
-    answered = answered-err Done IsMemoryOrDisk op (call_cause old.origin op (cells_at old.origin updates.step.before) updates.step.before) fault (free-comes op fault update) updates.step.refused;
+    cells = updates.step.cells;
+    counted = updates.step.counted;
+    answered = answered-err Done IsMemoryOrDisk op (call_cause old.origin op updates.step.cells updates.step.before) fault (free-comes op fault update) updates.step.refused;
     leaves = fault-leaves Done w session row op old updates.step.before new fault updates.step.leaves updates.loses;
   }
 
@@ -364,7 +368,9 @@ module _ {I P : Type 0} (leaves : I → List Leaf) (w session row : ℕ) (op : O
     before = step.before;
     later = step.later;
     alone = step.alone;
-    answered = cause-is op old query (Err (call_fault fault)) (cells_at old.origin step.before) step.before (answered-err (Snapshot I P) IsMemory op (call_refusal old.origin.kept step.before) fault (memory-comes op fault) step.refused);
+    cells = step.cells;
+    counted = step.counted;
+    answered = cause-is op old query (Err (call_fault fault)) step.cells step.before (answered-err (Snapshot I P) IsMemory op (call_refusal old.origin.kept step.before) fault (memory-comes op fault) step.refused);
     leaves = fault-leaves (Snapshot I P) w session row op old step.before new fault step.leaves
         (calm-loses (Snapshot I P) (world_after old.origin.world step.before) op fault (look-calm (Snapshot I P) old.origin.kept step.before fault step.refused));
   }
@@ -374,7 +380,9 @@ module _ {I P : Type 0} (leaves : I → List Leaf) (w session row : ℕ) (op : O
     before = step.before;
     later = step.later;
     alone = step.alone;
-    answered = cause-is op old query (Err (call.Memory (Some shown.place))) (cells_at old.origin step.before) step.before (answered-ok IsMemory op (call_refusal old.origin.kept step.before) shown (Err (call.Memory (Some shown.place))) step.refused query);
+    cells = step.cells;
+    counted = step.counted;
+    answered = cause-is op old query (Err (call.Memory (Some shown.place))) step.cells step.before (answered-ok IsMemory op (call_refusal old.origin.kept step.before) shown (Err (call.Memory (Some shown.place))) step.refused query);
     leaves = (step.leaves, step.says.place_is);
   }
 
@@ -384,7 +392,9 @@ module _ {I P : Type 0} (leaves : I → List Leaf) (w session row : ℕ) (op : O
     before = step.before;
     later = step.later;
     alone = step.alone;
-    answered = cause-is op old query (Ok (record { place = shown.place; answer = answer; full = None })) (cells_at old.origin step.before) step.before
+    cells = step.cells;
+    counted = step.counted;
+    answered = cause-is op old query (Ok (record { place = shown.place; answer = answer; full = None })) step.cells step.before
         (answered-ok IsMemory op (call_refusal old.origin.kept step.before) shown (Ok (record { place = shown.place; answer = answer; full = None })) step.refused tt);
     leaves = (step.leaves, record { replies = record { place_is = step.says.place_is; answer_is = is }; full_is = sym (told-query w op new query) });
   }

@@ -2,6 +2,7 @@ pub mod WorldSteps
 pub mod Origins
 pub mod Sent
 pub mod LiveSplits
+pub mod Exact
 pub mod StepLemmas
 pub mod OpenLemmas
 pub mod CallLemmas
@@ -15,3 +16,4 @@ pub mod Contents
 pub mod RunLemmas
 pub mod SettleLemmas
 pub mod SyncLemmas
+pub mod Moving

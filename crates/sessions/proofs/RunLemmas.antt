@@ -74,6 +74,8 @@ looked-called w session row op a b new result looked called =
       before = c.before;
       later = prefix-later a.seen b.seen c.before looked.later c.later;
       alone = λ all. c.alone all ∙ looked.alone all;
+      cells = c.cells;
+      counted = c.counted;
       answered = c.answered;
       leaves = looked-leaves w session row op a b.seen c.before new result c.leaves;
     }
@@ -198,6 +200,8 @@ module _ {D : Type 0} (drive : D → Drive) (w session row : ℕ) (op : Op) (b :
         before = pass.seen;
         later = ([], append-nil pass.seen);
         alone = λ all. refl;
+        cells = cells_at pass.origin pass.seen;
+        counted = λ still. refl;
         answered = cause-is op (freed pass) query (Ok done) (cells_at pass.origin pass.seen) pass.seen
             (answered-ok IsMemory op (call_refusal pass.origin.kept pass.seen) place (Ok done) (subst (λ (o : Option BookFault). IsRefusedBy {A = ℕ} IsMemory o (Ok place)) note-cause refused) tt);
         leaves = (next_is, record { replies = record { place_is = notes.place_is ∙ ap call_count seen; answer_is = answer_is }; full_is = sym (told-query w op next query) });
@@ -211,6 +215,8 @@ module _ {D : Type 0} (drive : D → Drive) (w session row : ℕ) (op : Op) (b :
         before = pass.seen;
         later = ([], append-nil pass.seen);
         alone = λ all. refl;
+        cells = cells_at pass.origin pass.seen;
+        counted = λ still. refl;
         answered = cause-is op (freed pass) query (Err (call_fault fault)) (cells_at pass.origin pass.seen) pass.seen (answered-err ℕ IsMemory op (call_refusal pass.origin.kept pass.seen) fault (memory-comes op fault) refused');
         leaves = fault-leaves ℕ w session row op (freed pass) pass.seen (freed pass) fault (calm-seen ℕ session row op (freed pass) pass.seen (freed pass) fault calm refl)
             (calm-loses ℕ (world_after pass.origin.world pass.seen) op fault calm);

@@ -9,10 +9,10 @@ use Rattle.plain_list.specs.declared.entries.Lost.{Lost}
 use Rattle.plain_list.specs.State.{State}
 use Rattle.disk_trait.specs.Drive.{Drive}
 use Rattle.std.specs.Option.{option_map, option_map_or}
-use Rattle.kept_log.specs.KeptView.{KeptView}
-use Rattle.kept_log.specs.Journal.{KeepsIn, cells_in, written_in}
+use Rattle.kept_log.specs.KeptView.{KeptView, Earlier}
+use Rattle.kept_log.specs.Journal.{KeepsFrom, KeepsIn, cells_in, written_in}
 use Rattle.kept_log.specs.Counts.{count_after}
-use Rattle.kept_log.proofs.Waiting.{in-count}
+use Rattle.kept_log.proofs.Moving.{unmoved-count}
 use Rattle.commit_book.specs.BookView.{BookView}
 use Rattle.commit_book.specs.IsBook.{IsBook}
 use Rattle.commit_book.specs.Refusals.{IsRefusedBy, LeavesRefused, first_of}
@@ -21,29 +21,42 @@ use Rattle.commit_book.specs.declared.faults.BookFault.TheVariants.{Closed, Disk
 use Rattle.book_lock.specs.Pass.{Known}
 use Rattle.book_lock.specs.Ends.{MayNote}
 use Rattle.book_lock.specs.declared.origin.LogStart.{LogStart}
-use Rattle.sessions.specs.Shared.{origin_of, start_in, waits_in}
-use Rattle.sessions.specs.Steps.{cells_at, WasTaken, IsStep, Leaves, Says, MayGive, has_entry, has_given, has_added, has_seen}
+use Rattle.sessions.specs.Shared.{origin_of, start_in, waits_in, moves_of}
+use Rattle.sessions.specs.Steps.{cells_at, IsCount, WasTaken, IsStep, Leaves, Says, MayGive, has_entry, has_given, has_added, has_seen}
 use Rattle.sessions.specs.Splits.{SamePass}
 
 pub prefix-later : (xs ys zs : List Entry) → IsPrefix xs ys → IsPrefix ys zs → IsPrefix xs zs
 prefix-later xs ys zs (a, p) (b, q) = (a ++ b, sym (append_assoc xs a b) ∙ ap (λ (l : List Entry). l ++ b) p ∙ q)
 
 log-cells : {D : Type 0} (drive : D → Drive) (w : ℕ) (s : State) (h : List Entry) (log : Option (KeptView D)) → KeepsIn drive w s h log
+    → option_map_or (λ (start : LogStart). start.moves) (option_map (start_in drive) log) false ≡ false
     → cells_in log ≡ count_after (option_map (λ (start : LogStart). start.cells) (option_map (start_in drive) log)) s.world h
-log-cells drive w s h None keeps = refl
-log-cells drive w s h (Some log) keeps = in-count drive w s h (Some log) keeps
+log-cells drive w s h None keeps still = refl
+log-cells drive w s h (Some log) keeps still = unmoved-count drive w s h log still keeps
 
--- the number of cells of a book's log
-pub cells-at : {D : Type 0} (drive : D → Drive) (w : ℕ) (b : BookView D) → IsBook drive w b → cells_in b.log ≡ cells_at (origin_of drive b) b.entries
-cells-at drive w b is = log-cells drive w b.opening b.entries b.log is.on_log
+-- the number of cells of a book's log, if no fresh one may replace it
+pub cells-at : {D : Type 0} (drive : D → Drive) (w : ℕ) (b : BookView D) → IsBook drive w b → moves_of (origin_of drive b) ≡ false → cells_in b.log ≡ cells_at (origin_of drive b) b.entries
+cells-at drive w b is still = log-cells drive w b.opening b.entries b.log is.on_log still
 
--- where no record waits for a sync, all are in the file
+-- so a pass knows it that has taken the book
+pub count-taken : {D : Type 0} (drive : D → Drive) (w : ℕ) (b : BookView D) (old took : Known) → IsBook drive w b → WasTaken drive b old took → IsCount old.origin took.seen (cells_in b.log)
+count-taken drive w b old took is was still = cells-at drive w b is (ap moves_of was.origin ∙ still) ∙ (λ i. cells_at (was.origin i) (was.entries i))
+
+-- where no record waits for a sync, none waits
+pub none-waits : {D : Type 0} (drive : D → Drive) (w : ℕ) (s : State) (h : List Entry) (log : KeptView D) → KeepsIn drive w s h (Some log) → log.at_sync ≡ false → log.waiting ≡ []
+none-waits {D = D} drive w s h log keeps once = go log.earlier keeps
+  where
+    go : (earlier : Option (Earlier D)) → KeepsFrom drive w s h log earlier → log.waiting ≡ []
+    go None keeps = (keeps.at_once once).0
+    go (Some earlier) keeps = (keeps.keeps.at_once once).0
+
+-- then all are in the file
 pub written-all : {D : Type 0} (drive : D → Drive) (w : ℕ) (b : BookView D) → IsBook drive w b → waits_in (origin_of drive b) ≡ false → written_in b.log ≡ cells_in b.log
 written-all {D = D} drive w b is once = by_log b.log is.on_log once
   where
     by_log : (log : Option (KeptView D)) → KeepsIn drive w b.opening b.entries log → option_map_or (λ (start : LogStart). start.at_sync) (option_map (start_in drive) log) false ≡ false → written_in log ≡ cells_in log
     by_log None keeps once = refl
-    by_log (Some log) keeps once = omega (arith, ap length (keeps.at_once once).0)
+    by_log (Some log) keeps once = omega (arith, ap length (none-waits drive w b.opening b.entries log keeps once))
 
 -- where no later cause comes, the first one does
 pub first-none : (cause : Option BookFault) → first_of cause None ≡ cause
@@ -130,9 +143,9 @@ stepped drive w IsFree cause entry lost P b mid old took back result is was step
   before = took.seen;
   later = was.later;
   alone = was.alone;
-  refused =
-      subst (λ (n : ℕ). IsRefusedBy IsFree (cause n took.seen) result) (cells-at drive w b is ∙ (λ i. cells_at (was.origin i) (was.entries i)))
-      (subst (λ (h : List Entry). IsRefusedBy IsFree (cause (cells_in b.log) h) result) was.entries step.refused);
+  cells = cells_in b.log;
+  counted = count-taken drive w b old took is was;
+  refused = subst (λ (h : List Entry). IsRefusedBy IsFree (cause (cells_in b.log) h) result) was.entries step.refused;
   says = subst (λ (h : List Entry). Says (P h) result) was.entries says;
   leaves = left drive IsFree (cause (cells_in b.log) b.entries) entry lost b mid old took back was result step given;
 }

@@ -13,9 +13,10 @@ use Rattle.disk_trait.specs.Drive.{Drive}
 use Rattle.disk_trait.specs.Moments.{LeavesNow}
 use Rattle.log_state.specs.Changes.{cells_of, failed_cells}
 use Rattle.log_state.specs.Recovers.{Recovers}
-use Rattle.kept_log.specs.Journal.{KeepsIn, KeepsLog, waiting_in}
+use Rattle.kept_log.specs.Journal.{KeepsIn, KeepsLog, KeepsWaiting, waiting_in}
 use Rattle.kept_log.specs.Kept.{StartsWith}
 use Rattle.kept_log.proofs.InJournal.{failed_cells-none}
+use Rattle.kept_log.proofs.Moving.{unmoved-keeps}
 use Rattle.kept_log.proofs.Waiting.{keeps-synced}
 use Rattle.kept_log.specs.KeptView.{KeptView}
 use Rattle.commit_book.specs.BookView.{BookView}
@@ -26,12 +27,12 @@ use Rattle.commit_book.specs.declared.faults.BookFault.{BookFault}
 use Rattle.commit_book.specs.declared.faults.BookFault.TheVariants.{Closed, Disk, HistoryFull, LogFull, Memory, Room, Splitting, Deep, NoLeaf, Stale, NotOpen}
 use Rattle.book_lock.specs.Pass.{Known}
 use Rattle.book_lock.specs.declared.origin.LogStart.{LogStart}
-use Rattle.sessions.specs.Shared.{origin_of, start_in, waits_in}
+use Rattle.sessions.specs.Shared.{origin_of, start_in, waits_in, moves_of}
 use Rattle.sessions.specs.Splits.{SamePass}
 use Rattle.sessions.specs.Steps.{MayGive, WasTaken, has_added, has_entry, has_given, has_seen}
 use Rattle.sessions.specs.Syncs.{Stood, SyncLeaves, SyncsPass, WasDurable, has_lost}
 use Rattle.sessions.proofs.Origins.{same-origin}
-use Rattle.sessions.proofs.StepLemmas.{BookStep, adds, fail-may, same-added, same-seen, sees}
+use Rattle.sessions.proofs.StepLemmas.{BookStep, adds, fail-may, none-waits, same-added, same-seen, sees}
 
 module _ {D : Type 0} (drive : D → Drive) (w : ℕ) (b mid : BookView D) (old took back : Known) (was : WasTaken drive b old took) where
   same : b.entries ≡ took.seen
@@ -139,12 +140,12 @@ stood-at-once {D = D} drive w pass stood once = record { stood = stood; none_wai
   where
     by_log : (log : Option (KeptView D)) → KeepsIn drive w stood.book.opening stood.book.entries log → option_map_or (λ (start : LogStart). start.at_sync) (option_map (start_in drive) log) false ≡ false → waiting_in log ≡ []
     by_log None keeps none = refl
-    by_log (Some log) keeps none = (keeps.at_once none).0
+    by_log (Some log) keeps none = none-waits drive w stood.book.opening stood.book.entries log keeps none
 
--- a crash at that moment left the first cells and those of all that the pass has seen
-pub left-durable : {D : Type 0} (drive : D → Drive) (w : ℕ) (pass : Known) (durable : WasDurable drive w pass) (log : KeptView D) → durable.stood.book.log ≡ Some log → failed_cell pass.seen ≡ None
+-- a crash at that moment left the first cells and those of all that the pass has seen, if no fresh log may replace the log
+pub left-durable : {D : Type 0} (drive : D → Drive) (w : ℕ) (pass : Known) (durable : WasDurable drive w pass) (log : KeptView D) → moves_of pass.origin ≡ false → durable.stood.book.log ≡ Some log → failed_cell pass.seen ≡ None
     → (first : List Cell) → StartsWith w first (drive log.start) → LeavesNow (drive log.disk) (Recovers w (first ++ cells_of pass.origin.world pass.seen))
-left-durable drive w pass durable log is good first starts c left =
+left-durable {D = D} drive w pass durable log still is good first starts c left =
     subst (λ (l : List Cell). Recovers w (first ++ l) c) (λ i. cells_of (durable.stood.origin i).world (durable.stood.entries i)) (placed ((kept.keeps.since first starts).history.at_end c left))
   where
     opening : State
@@ -153,8 +154,11 @@ left-durable drive w pass durable log is good first starts c left =
     h : List Entry
     h = durable.stood.book.entries
 
-    in-log : KeepsIn drive w opening h (Some log)
-    in-log = subst (KeepsIn drive w opening h) is durable.stood.is_book.on_log
+    unmoving : log.moves ≡ false
+    unmoving = subst (λ (l : Option (KeptView D)). option_map_or (λ (start : LogStart). start.moves) (option_map (start_in drive) l) false ≡ false) is (ap moves_of durable.stood.origin ∙ still)
+
+    in-log : KeepsWaiting drive w opening h log
+    in-log = unmoved-keeps drive w opening h log unmoving (subst (KeepsIn drive w opening h) is durable.stood.is_book.on_log)
 
     none : failed_cell h ≡ None
     none = ap failed_cell durable.stood.entries ∙ good

@@ -1,5 +1,5 @@
 -- The objects behind a lock are a world.
-use Rattle.std.proofs.Common.{◌≡◌, ℕ, ◌+◌, Bool, true, false, cond, List, [], ◌∷◌, ◌++◌, Option, Some, None, sym, subst, ◌∙◌}
+use Rattle.std.proofs.Common.{◌≡◌, ℕ, ◌+◌, Bool, true, false, cond, List, [], ◌∷◌, ◌++◌, Option, Some, None, sym, subst, ap, ◌∙◌}
 use Rattle.std.specs.Prelude.{⊤, Ok, Err, Result}
 use Rattle.plain_list.specs.declared.ops.Op.{Op}
 use Rattle.plain_list.specs.declared.entries.Entry.{Entry}
@@ -31,8 +31,11 @@ use Rattle.commit_book.proofs.BookSteps.{query_keeps}
 use Rattle.commit_book.specs.declared.book.Done.{Done}
 use Rattle.commit_book.specs.declared.book.Snapshot.{Snapshot}
 use Rattle.kept_log.specs.KeptView.{KeptView}
-use Rattle.kept_log.specs.Journal.{IsSinceIn}
-use Rattle.commit_book.specs.IsBook.{SameOrigin}
+use Rattle.kept_log.specs.Journal.{IsSinceIn, IsMovedFromIn, written_in}
+use Rattle.split_log.specs.LogView.{LogView}
+use Rattle.recovery.specs.declared.seen.Seen.{Seen}
+use Rattle.commit_book.specs.IsBook.{SameOrigin, SameMoved}
+use Rattle.commit_book.specs.Moves.{StopsBook, lost_stop, with_fresh_log}
 use Rattle.sessions.specs.Shared.{HasWorld, StartsAs, IsShared}
 
 -- an entry whose operation fits
@@ -156,17 +159,47 @@ snapshot_stands leaves names old new session row op (Ok s) query opening ok inde
 snapshot_stands leaves names old new session row op (Err fault) query opening ok index = tt
 
 -- no call changes over which drive the log was opened
-starts_still : {D : Type 0} (drive : D → Drive) (unlogged : Type 0) (Is : Drive → Bool → Type 0) (old new : Option (KeptView D)) → IsSinceIn old new → StartsAs drive unlogged Is old → StartsAs drive unlogged Is new
+starts_still : {D : Type 0} (drive : D → Drive) (unlogged : Type 0) (Is : Drive → Bool → Bool → Type 0) (old new : Option (KeptView D)) → IsSinceIn old new → StartsAs drive unlogged Is old → StartsAs drive unlogged Is new
 starts_still drive unlogged Is None None since starts = starts
-starts_still drive unlogged Is (Some old) (Some new) since starts = subst (λ (waits : Bool). Is (drive new.start) waits) (sym since.at_sync) (subst (λ (d : _). Is (drive d) old.at_sync) (sym since.start) starts)
+starts_still drive unlogged Is (Some old) (Some new) since starts =
+    let from = subst (λ (d : _). Is (drive d) old.at_sync old.moves) (sym since.start) starts in
+    let waits = subst (λ (waits : Bool). Is (drive new.start) waits old.moves) (sym since.at_sync) from in
+    subst (λ (moves : Bool). Is (drive new.start) new.at_sync moves) (sym since.moves) waits
 starts_still drive unlogged Is None (Some new) since starts = absurd since
 starts_still drive unlogged Is (Some old) None since starts = absurd since
 
+-- nor does a fresh log change it
+starts_moved : {D : Type 0} (drive : D → Drive) (unlogged : Type 0) (Is : Drive → Bool → Bool → Type 0) (old new : Option (KeptView D)) → IsMovedFromIn old new → StartsAs drive unlogged Is old → StartsAs drive unlogged Is new
+starts_moved drive unlogged Is None None from starts = starts
+starts_moved drive unlogged Is (Some old) (Some new) from starts =
+    let on = subst (λ (d : _). Is (drive d) old.at_sync old.moves) (sym from.start) starts in
+    let waits = subst (λ (waits : Bool). Is (drive new.start) waits old.moves) (sym from.at_sync) on in
+    subst (λ (moves : Bool). Is (drive new.start) new.at_sync moves) (sym from.moves) waits
+starts_moved drive unlogged Is None (Some new) from starts = absurd from
+starts_moved drive unlogged Is (Some old) None from starts = absurd from
+
 -- so it is as every book behind a lock
-pub shared_still : {D : Type 0} (drive : D → Drive) (unlogged : Type 0) (Is : Drive → Bool → Type 0) (old new : BookView D) → SameOrigin old new → StartsAs drive unlogged Is old.log → HasWorld new → IsShared drive unlogged Is new
+pub shared_still : {D : Type 0} (drive : D → Drive) (unlogged : Type 0) (Is : Drive → Bool → Bool → Type 0) (old new : BookView D) → SameOrigin old new → StartsAs drive unlogged Is old.log → HasWorld new → IsShared drive unlogged Is new
 shared_still drive unlogged Is old new same starts has = record { has = has; start = starts_still drive unlogged Is old.log new.log same.log starts }
 
+-- a fresh log leaves the entries
+pub moved_entries : {D E : Type 0} {A : Type 0} (w : ℕ) (seen : Seen) (log : LogView D) (start : D) (old new : BookView D) (Q : E → Type 0) (r : Result A E) → IfOk r (λ _. new ≡ with_fresh_log w seen log start old)
+    → IfErr r (λ e. (new ≡ old) × Q e) → new.entries ≡ old.entries
+moved_entries w seen log start old new Q (Ok value) moved back = ap (λ (b : BookView _). b.entries) moved
+moved_entries w seen log start old new Q (Err e) moved back = ap (λ (b : BookView _). b.entries) back.0
+
+pub moved_shared : {D : Type 0} (drive : D → Drive) (unlogged : Type 0) (Is : Drive → Bool → Bool → Type 0) (old new : BookView D) → SameMoved old new → new.entries ≡ old.entries → IsShared drive unlogged Is old → IsShared drive unlogged Is new
+moved_shared drive unlogged Is old new same entries held = record {
+  has = record { world = subst IsWorld (λ i. world_after (sym same.opening i).world (sym entries i)) held.has.world };
+  start = starts_moved drive unlogged Is old.log new.log same.log held.start;
+}
+
+-- and a book that is stopped
+pub stop_world : {D A : Type 0} (old new : BookView D) (r : Result A BookFault) → IfOk r (λ _. StopsBook old new) → IfErr r (λ _. new ≡ old) → new.opening ≡ old.opening → HasWorld old → HasWorld new
+stop_world old new (Ok value) ok err opening has = world_more old new (Fail (written_in old.log) lost_stop) tt opening ok.entries has
+stop_world old new (Err fault) ok err opening has = subst HasWorld (sym err) has
+
 -- of every book nothing is known
-pub any_start : {D : Type 0} (drive : D → Drive) (log : Option (KeptView D)) → StartsAs drive ⊤ (λ d waits. ⊤) log
+pub any_start : {D : Type 0} (drive : D → Drive) (log : Option (KeptView D)) → StartsAs drive ⊤ (λ d waits moves. ⊤) log
 any_start drive None = tt
 any_start drive (Some log) = tt

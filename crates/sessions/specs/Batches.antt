@@ -15,8 +15,8 @@ use Rattle.book_lock.specs.Ends.{EndsSplit}
 use Rattle.book_lock.specs.Pass.{Known}
 use Rattle.book_lock.specs.declared.origin.Origin.{Origin}
 use Rattle.sessions.specs.Calls.{call_fault, next_full}
-use Rattle.sessions.specs.Shared.{waits_in}
-use Rattle.sessions.specs.Steps.{all_parts, cells_at, has_seen}
+use Rattle.sessions.specs.Shared.{moves_of, waits_in}
+use Rattle.sessions.specs.Steps.{all_parts, cells_at, IsCount, has_seen}
 use Rattle.sessions.specs.declared.faults.CallFault.{CallFault}
 use Rattle.sessions.specs.declared.faults.CallFault.TheVariants.{Closed, Disk, HistoryFull, LogFull, Memory}
 
@@ -68,10 +68,10 @@ pub record HasDoneAll (w : ℕ) (old new : Known) (ops : List Op) (before : List
   pub full_is : done.full ≡ next_full w new
 
 -- The append failed. The history ends with the lost changes, of which there is one at least. If no record waits for a
--- sync, the cell is the first one of the batch.
+-- sync, and no fresh log may replace the log, the cell is the first one of the batch.
 pub record HasLost (session row : ℕ) (ops : List Op) (old new : Known) (before : List Entry) (cell : ℕ) : Type 0 where
   pub added : new ≡ has_added_all old before (batch_fails cell (world_after old.origin.world before) session row ops)
-  pub cell_is : waits_in old.origin ≡ false → cell ≡ cells_at old.origin before
+  pub cell_is : waits_in old.origin ≡ false → moves_of old.origin ≡ false → cell ≡ cells_at old.origin before
   pub change : list_any is_change (answers_to (world_after old.origin.world before) ops) ≡ true
 
 -- What a batch leaves. Its calls or its lost changes are the last that was seen, with no other entry between them, and
@@ -84,10 +84,13 @@ BatchLeaves w session row ops old before new (Err HistoryFull) = new ≡ has_see
 BatchLeaves w session row ops old before new (Err LogFull) = new ≡ has_seen old before
 BatchLeaves w session row ops old before new (Err (Memory place)) = new ≡ has_seen old before
 
--- A batch: the history that was seen under the lock, the cause for which it is refused there, and what it leaves.
+-- A batch: the history that was seen under the lock, the number of cells in the log then, the cause for which the batch is
+-- refused there, and what it leaves.
 pub record Applied (w session row : ℕ) (ops : List Op) (old new : Known) (result : Result BatchDone CallFault) : Type 0 where
   pub before : List Entry
   pub later : IsPrefix old.seen before
   pub alone : old.parts ≡ all_parts → before ≡ old.seen
-  pub answered : IsApplied (batch_cause old.origin ops (cells_at old.origin before) before) result
+  pub cells : ℕ
+  pub counted : IsCount old.origin before cells
+  pub answered : IsApplied (batch_cause old.origin ops cells before) result
   pub leaves : BatchLeaves w session row ops old before new result

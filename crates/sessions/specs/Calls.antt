@@ -27,7 +27,7 @@ use Rattle.sessions.specs.Shared.{start_of}
 use Rattle.sessions.specs.Opens.{leaves_seen, places_seen, listed_by, Opens, OpensRefused}
 use Rattle.sessions.specs.Splits.{SamePass}
 use Rattle.sessions.specs.Syncs.{Stood}
-use Rattle.sessions.specs.Steps.{all_parts, cells_at, IsStep, has_added, has_seen}
+use Rattle.sessions.specs.Steps.{all_parts, IsCount, IsStep, has_added, has_seen}
 use Rattle.sessions.specs.declared.faults.CallFault.{CallFault}
 use Rattle.sessions.specs.declared.faults.CallFault.TheVariants.{Closed, Disk, HistoryFull, LogFull, Memory}
 
@@ -115,12 +115,15 @@ CallLeaves w session row op old before new (Err LogFull) = new ≡ has_seen old 
 CallLeaves w session row op old before new (Err (Memory None)) = new ≡ has_seen old before
 CallLeaves w session row op old before new (Err (Memory (Some place))) = (new ≡ has_added old before (Call session row op)) × (place ≡ call_count new.seen)
 
--- A call: the history that the pass saw under the lock, why the call is refused there, and what it leaves.
+-- A call: the history that the pass saw under the lock, the number of cells in the log then, why the call is refused
+-- there, and what it leaves.
 pub record Called (w session row : ℕ) (op : Op) (old new : Known) (result : Result Done CallFault) : Type 0 where
   pub before : List Entry
   pub later : IsPrefix old.seen before
   pub alone : old.parts ≡ all_parts → before ≡ old.seen
-  pub answered : IsAnswered op (call_cause old.origin op (cells_at old.origin before) before) result
+  pub cells : ℕ
+  pub counted : IsCount old.origin before cells
+  pub answered : IsAnswered op (call_cause old.origin op cells before) result
   pub leaves : CallLeaves w session row op old before new result
 
 -- How often a call opened a bucket, over the leaves and objects that its pass has seen then.

@@ -19,21 +19,28 @@ use Rattle.book_lock.specs.declared.origin.LogStart.{LogStart}
 pub record HasWorld {D : Type 0} (b : BookView D) : Type 0 where
   pub world : IsWorld (world_after b.opening.world b.entries)
 
--- What is known of the drive over which the log was opened and of whether its records wait for a sync, or of a book
--- without a log.
-abbrev pub StartsAs : {D : Type 0} → (D → Drive) → Type 0 → (Drive → Bool → Type 0) → Option (KeptView D) → Type 0
+-- What is known of the drive over which the log was first opened, of whether its records wait for a sync, and of whether a
+-- fresh log may replace it, or of a book without a log.
+abbrev pub StartsAs : {D : Type 0} → (D → Drive) → Type 0 → (Drive → Bool → Bool → Type 0) → Option (KeptView D) → Type 0
 StartsAs drive unlogged Is None = unlogged
-StartsAs drive unlogged Is (Some log) = Is (drive log.start) log.at_sync
+StartsAs drive unlogged Is (Some log) = Is (drive log.start) log.at_sync log.moves
 
 -- What holds of each book behind a lock.
-pub record IsShared {D : Type 0} (drive : D → Drive) (unlogged : Type 0) (Is : Drive → Bool → Type 0) (b : BookView D) : Type 0 where
+pub record IsShared {D : Type 0} (drive : D → Drive) (unlogged : Type 0) (Is : Drive → Bool → Bool → Type 0) (b : BookView D) : Type 0 where
   pub has : HasWorld b
   pub start : StartsAs drive unlogged Is b.log
 
--- The log at its opening: the number of cells, the drive's bytes, clock and count of faults, and whether cells wait for a
--- sync.
+-- The log at its first opening: the number of cells, the drive's bytes, clock and count of faults, whether cells wait for
+-- a sync, and whether a fresh log may replace it.
 abbrev pub start_in : {D : Type 0} → (D → Drive) → KeptView D → LogStart
-start_in drive log = record { cells = log.first; bytes = (drive log.start).bytes; clock = (drive log.start).clock; faults = (drive log.start).faults; at_sync = log.at_sync }
+start_in drive log = record {
+  cells = log.first;
+  bytes = (drive log.start).bytes;
+  clock = (drive log.start).clock;
+  faults = (drive log.start).faults;
+  at_sync = log.at_sync;
+  moves = log.moves;
+}
 
 -- What a book began from.
 abbrev pub origin_of : {D : Type 0} → (D → Drive) → BookView D → Origin
@@ -57,6 +64,10 @@ first_cells o = option_map (λ (log : LogStart). log.cells) o.log
 -- Whether its cells wait for a sync. Without a log none do.
 abbrev pub waits_in : Origin → Bool
 waits_in o = option_map_or (λ (log : LogStart). log.at_sync) o.log false
+
+-- Whether a fresh log may replace its log. Without a log none does.
+abbrev pub moves_of : Origin → Bool
+moves_of o = option_map_or (λ (log : LogStart). log.moves) o.log false
 
 -- These leaves represent the objects before a call, with the leaf names after it.
 abbrev pub StandsBefore : {D : Type 0} → ℕ → BookView D → BookView D → List Leaf → Type 0

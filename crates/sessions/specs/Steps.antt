@@ -15,7 +15,7 @@ use Rattle.book_lock.specs.Own.{IsBelow}
 use Rattle.book_lock.specs.Ends.{MayNote, OwnsEnds}
 pub use Rattle.book_lock.specs.Rule.{all_parts}
 use Rattle.book_lock.specs.declared.origin.Origin.{Origin}
-use Rattle.sessions.specs.Shared.{first_cells, origin_of}
+use Rattle.sessions.specs.Shared.{first_cells, moves_of, origin_of}
 
 -- The pass has seen this history, and nothing else changed.
 abbrev pub has_seen : Known → List Entry → Known
@@ -25,9 +25,15 @@ has_seen old before = record old { seen = before }
 abbrev pub has_added : Known → List Entry → Entry → Known
 has_added old before e = record old { seen = before ++ e ∷ []; own = old.own ++ length before ∷ [] }
 
--- The number of cells in the log of a store of this origin after a history. It is 0 without a log.
+-- The number of cells after a history in the log of a store of this origin, if no fresh log has replaced it. It is 0
+-- without a log.
 abbrev pub cells_at : Origin → List Entry → ℕ
 cells_at origin before = count_after (first_cells origin) origin.world before
+
+-- The log of a store of this origin may have so many cells after a history. If no fresh log may replace it, the history
+-- determines the number.
+abbrev pub IsCount : Origin → List Entry → ℕ → Type 0
+IsCount origin before cells = moves_of origin ≡ false → cells ≡ cells_at origin before
 
 -- What a step leaves. If it adds an entry, that entry is the last one that was seen, and is the pass's own.
 abbrev pub Leaves : {A : Type 0} → (A → Entry) → (List Entry → Lost) → Known → List Entry → Known → Result A BookFault → Type 0
@@ -49,12 +55,15 @@ abbrev pub Says : {A : Type 0} → (A → Type 0) → Result A BookFault → Typ
 Says P (Ok value) = P value
 Says P (Err fault) = Unit {0}
 
--- A step under the lock: the history that the pass saw there, why the step is refused, and what it leaves.
+-- A step under the lock: the history that the pass saw there, the number of cells in the log then, why the step is
+-- refused, and what it leaves.
 pub record IsStep {A : Type 0} (IsFree : BookFault → Type 0) (cause : ℕ → List Entry → Option BookFault) (entry : A → Entry) (lost : List Entry → Lost) (P : List Entry → A → Type 0) (old new : Known) (result : Result A BookFault) : Type 0 where
   pub before : List Entry
   pub later : IsPrefix old.seen before
   pub alone : old.parts ≡ all_parts → before ≡ old.seen
-  pub refused : IsRefusedBy IsFree (cause (cells_at old.origin before) before) result
+  pub cells : ℕ
+  pub counted : IsCount old.origin before cells
+  pub refused : IsRefusedBy IsFree (cause cells before) result
   pub says : Says (P before) result
   pub leaves : Leaves entry lost old before new result
 

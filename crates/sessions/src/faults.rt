@@ -2,7 +2,7 @@
 ghost use Rattle.std.specs.Prelude.{◌≡◌};
 ghost use Rattle.sessions.specs.Calls.{IsCallFault, call_fault};
 ghost use Rattle.sessions.specs.Splits.{IsLasting};
-ghost use Rattle.sessions.specs.Settles.{IsSettleFault};
+ghost use Rattle.sessions.specs.Settles.{IsNoRoom};
 ghost use Rattle.sessions.specs.Steps.{has_entry};
 
 use commit_book::BookFault;
@@ -70,11 +70,11 @@ pub(crate) fn lasting(fault: BookFault) -> BookFault
     fault
 }
 
-/// Returns the fault, which `settle` may return.
+/// Returns the fault, which is not too little room for a split.
 pub(crate) fn settle_fault(fault: BookFault) -> BookFault
-    requires { IsSettleFault fault }
+    requires { IsNoRoom fault }
     ensures fault { result ≡ fault }
-    ensures settles { IsSettleFault fault }
+    ensures roomy { IsNoRoom fault }
 {
     fault
 }

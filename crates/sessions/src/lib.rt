@@ -13,6 +13,7 @@
 //! | `room`, `closed` | return the room that is left, and the record whose append failed |
 //! | `world`, `world_at`, `view` | return a copy of the objects, alone or with its place, or a share of the index |
 //! | `content`, `anew` | copy the objects with the names of the leaves, or with an index with fresh leaves |
+//! | `hold`, `release` | take the lock and the book, and give both back: for a call that replaces the log by a fresh one |
 //! | `close` | returns the book, whose history is what the last pass has seen |
 //!
 //! Each refusal has its cause over the history that the pass saw under the lock. The log of a returned book continues

@@ -1,5 +1,5 @@
 //! A book behind a lock.
-ghost use Rattle.std.specs.Prelude.{◌≡◌, ◌+◌, ◌<◌, ◌≤◌, ◌^◌, length, Some, None, IfOk, IfErr, OnOk};
+ghost use Rattle.std.specs.Prelude.{◌≡◌, ◌+◌, ◌<◌, ◌≤◌, ◌^◌, length, true, Some, None, IfOk, IfErr, OnOk};
 ghost use Rattle.std.specs.List.{AllByRecursion};
 ghost use Rattle.std.specs.Result.{result_err};
 ghost use Rattle.zorder.specs.Key.{IsPoint};
@@ -11,8 +11,12 @@ ghost use Rattle.plain_list.specs.State.{ComesBySplits, state_after};
 ghost use Rattle.index_layer.specs.Leaves.{names_of};
 ghost use Rattle.point_table.specs.Sized.{StandsBySize};
 ghost use Rattle.plain_list.specs.declared.entries.Lost.{Lost};
-ghost use Rattle.commit_book.specs.IsBook.{IsBook, AreBooks};
-ghost use Rattle.commit_book.specs.Refusals.{IsRefusedBy, IsDisk, IsMemory, IsMemoryOrDisk, LeavesRefused, closed_refusal, call_refusal, update_refusal, begin_refusal, prepared_refusal, abandon_refusal};
+ghost use Rattle.kept_log.specs.Journal.{log_in, moves_in};
+ghost use Rattle.commit_book.specs.IsBook.{IsBook, AreBooks, AreMovedBooks};
+ghost use Rattle.commit_book.specs.Moves.{IsListMemory, StopsBook, may_move_refusal, move_refusal, with_fresh_log};
+ghost use Rattle.commit_book.specs.OpenedLog.{IsOpenedLog};
+ghost use Rattle.commit_book.specs.Rotation.{HasContent};
+ghost use Rattle.commit_book.specs.Refusals.{IsRefusedBy, IsDisk, IsMemory, IsMemoryOrDisk, IsNoFault, LeavesRefused, closed_refusal, call_refusal, update_refusal, begin_refusal, prepared_refusal, abandon_refusal};
 ghost use Rattle.commit_book.specs.Answers.{IsUpdate, IsQuery, Notes, Replies, is_still_since};
 ghost use Rattle.commit_book.specs.Batches.{RepliesAll, LeavesRefusedAll, batch_refusal};
 ghost use Rattle.commit_book.specs.BookView.{StandsAfter, next_number};
@@ -23,10 +27,12 @@ ghost use Rattle.sessions.specs.Shared.{HasWorld, StandsBefore, StartsAs, TellsF
 
 use crate::start::Start;
 use book_lock::Held;
-use commit_book::{Anew, BatchDone, Book, BookFault, Content, Done, Room, Snapshot};
+use commit_book::{Anew, BatchDone, Book, BookFault, Content, Done, NotMoved, Room, Snapshot};
 use disk_trait::LogDisk;
 use index_layer::Index;
 use plain_list::{Op, World};
+use recovery::Opened;
+use split_log::SplitLog;
 use split_prepare::{Prepared, SplitTicket};
 use std::alloc::{AllocFailed, Global};
 use std::marker::{Model, PhantomData};
@@ -138,7 +144,7 @@ impl<I: Index, D: LogDisk, O: Start> SharedBook<I, D, O> {
     }
 
     /// As the book's call of this name. A closed book returns its fault.
-    pub(crate) fn content(&self) -> Result<Content, BookFault>
+    pub fn content(&self) -> Result<Content, BookFault>
         ensures world { IfOk result (λ c. c.world ≡ world_after self.now.opening.world self.now.entries) }
         ensures leaves { IfOk result (λ c. c.leaves ≡ (state_after I.WIDTH self.now.opening self.now.entries).leaves) }
         ensures comes { IfOk result (λ c. ComesBySplits I.WIDTH c.leaves) }
@@ -325,6 +331,40 @@ impl<I: Index, D: LogDisk, O: Start> SharedBook<I, D, O> {
         ensures book { AreBooks D.drive I.WIDTH self.old self.new }
     {
         self.book.abandon(number)
+    }
+}
+
+impl<I: Index, D: LogDisk, O: Start> SharedBook<I, D, O> {
+    /// As the book's call of this name.
+    pub fn check_move(&self) -> Result<(), BookFault>
+        ensures { IsRefusedBy IsNoFault (may_move_refusal I.WIDTH self.now) result }
+    {
+        self.book.check_move()
+    }
+
+    /// As the book's call of this name.
+    pub fn move_log(&mut self, opened: Opened<D>) -> Result<Option<SplitLog<D>>, NotMoved<D>>
+        requires moves { moves_in self.old.log ≡ true }
+        requires opened { IsOpenedLog D.drive I.WIDTH opened.seen opened.start.value opened.log }
+        requires content { HasContent I.WIDTH self.old opened.seen }
+        ensures ok { IfOk result (λ log. (move_refusal I.WIDTH self.old opened.seen.begun ≡ None) × (log ≡ log_in self.old.log)) }
+        ensures moved { IfOk result (λ _. self.new ≡ with_fresh_log I.WIDTH opened.seen opened.log opened.start.value self.old) }
+        ensures refused { IfErr result (λ e. move_refusal I.WIDTH self.old opened.seen.begun ≡ Some e.fault) }
+        ensures back { IfErr result (λ e. (self.new ≡ self.old) × (e.opened ≡ opened)) }
+        ensures book { AreMovedBooks D.drive I.WIDTH self.old self.new }
+    {
+        self.book.move_log(opened)
+    }
+
+    /// As the book's call of this name.
+    pub fn stop(&mut self) -> Result<(), BookFault>
+        requires moves { moves_in self.old.log ≡ true }
+        ensures ok { IfOk result (λ _. StopsBook self.old self.new) }
+        ensures refused { IsRefusedBy (IsListMemory self.old.kept) (call_refusal self.old.kept self.old.entries) result }
+        ensures err { IfErr result (λ _. self.new ≡ self.old) }
+        ensures book { AreBooks D.drive I.WIDTH self.old self.new }
+    {
+        self.book.stop()
     }
 }
 

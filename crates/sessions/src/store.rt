@@ -9,6 +9,7 @@ mod calls;
 mod contents;
 mod lanes;
 mod looks;
+mod moving;
 mod passes;
 mod runs;
 mod settling;

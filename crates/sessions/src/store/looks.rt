@@ -2,7 +2,7 @@
 ghost use Rattle.std.specs.Prelude.{◌≡◌, false, IfOk};
 ghost use Rattle.plain_list.specs.History.{failed_cell};
 ghost use Rattle.sessions.specs.Calls.{next_full};
-ghost use Rattle.sessions.specs.Rooms.{room_at};
+ghost use Rattle.sessions.specs.Rooms.{IsRoom};
 ghost use Rattle.sessions.specs.Runs.{HasLooked};
 ghost use Rattle.sessions.specs.Views.{IsView};
 
@@ -17,12 +17,13 @@ use std::sync::Wait;
 use zorder::{Memory, Name};
 
 impl<I: Index, D: LogDisk, O: Start> Store<I, D, O> {
-    /// How many more entries and log records there is room for, after all that the pass has seen.
+    /// How many more entries and log records there is room for, after all that the pass has seen. If a fresh log may
+    /// replace the log, a later call may return more records.
     pub fn room<R: Wait>(&self, rt: &R, pass: &mut Pass<SharedBook<I, D, O>>) -> Room
         requires lock { pass.old.lock ≡ self.now }
         requires off { pass.old.holds ≡ false }
         ensures looked { HasLooked pass.old pass.new }
-        ensures room { result ≡ room_at pass.new.origin pass.new.seen }
+        ensures room { IsRoom pass.new.origin pass.new.seen result }
     {
         let book = self.take(rt, pass);
         let room = book.room();

@@ -3,6 +3,7 @@ ghost use Rattle.std.specs.Prelude.{◌≡◌, false, None, Some};
 ghost use Rattle.commit_book.specs.Refusals.{closed_refusal};
 ghost use Rattle.sessions.specs.Calls.{next_full};
 ghost use Rattle.sessions.specs.Settles.{TellsNext, IsNextFault, SplitFault, Settles};
+ghost use Rattle.sessions.specs.Shared.{moves_of};
 ghost use Rattle.sessions.specs.Splits.{SplitEnds, SamePass};
 ghost use Rattle.sessions.specs.Steps.{all_parts};
 
@@ -54,7 +55,7 @@ impl<I: Index, D: LogDisk, O: Start> Store<I, D, O> {
         requires unclosed { closed_refusal pass.old.seen ≡ None }
         requires full { next_full I.WIDTH pass.old ≡ Some name.now }
         ensures ends { SplitEnds I.WIDTH name.now pass.old pass.new result }
-        ensures fault { SplitFault IsNextFault result }
+        ensures fault { SplitFault (IsNextFault (moves_of pass.old.origin)) result }
         ensures pass { SamePass pass.old pass.new }
     {
         self.split_at(rt, alloc, pass, 0, name, points)

@@ -6,11 +6,12 @@ use Rattle.book_lock.specs.Pass.{Known}
 use Rattle.sessions.specs.Calls.{next_full}
 use Rattle.sessions.specs.Steps.{all_parts}
 use Rattle.sessions.specs.Splits.{SamePass, SplitEnds}
-use Rattle.sessions.specs.Settles.{IsSettleFault}
+use Rattle.sessions.specs.Settles.{IsNextFault, IsSettleFault}
+use Rattle.sessions.specs.Shared.{moves_of}
 use Rattle.sessions.specs.declared.faults.Split.TheVariants.{Installed, NotSplit}
 use Rattle.sessions.proofs.StepLemmas.{same-later, same-parts}
 use Rattle.sessions.proofs.SplitLemmas.{same-none}
-use Rattle.sessions.proofs.SettleLemmas.{splits-more, room-begin}
+use Rattle.sessions.proofs.SettleLemmas.{next-settles, splits-more, room-begin}
 use Rattle.sessions.proofs.store.Store.settle.Goals as goal
 
 pub loop-preserved : goal.loop-preserved
@@ -39,14 +40,13 @@ returns-in-NotSplit-Room-clause-settles g c =
     let same = c.next-in-loop.ensures.pass in
     let arm = c.in-NotSplit-Room in
     let full : next_full w mid ≡ Some name = sym c.in-Ok-Some.ensures.next.1 ∙ c.in-Ok-Some.field-0-is in
-    let all : mid.parts ≡ all_parts = same-parts c.args.pass.now mid so_far.pass ∙ c.requires.all in
     let ends : SplitEnds w name mid new (NotSplit (book.Room arm.field-0-0 arm.field-0-1)) =
     subst (λ (f : BookFault). SplitEnds w name mid new (NotSplit f)) arm.field-0-is (subst (λ (k : Known). SplitEnds w name k new (NotSplit arm.field-0)) same arm.ensures.ends) in
     record {
       numbers = so_far.numbers;
       mid = mid;
       splits = so_far.splits;
-      ends = (name, full, arm.field-0-0, arm.field-0-1, room-begin w name mid new arm.field-0-0 arm.field-0-1 all c.in-Ok-Some.ensures.next.0 full ends);
+      ends = (name, full, arm.field-0-0, arm.field-0-1, room-begin w name mid new arm.field-0-0 arm.field-0-1 ends);
     }
 
 pub returns-in-NotSplit : goal.returns-in-NotSplit
@@ -60,6 +60,7 @@ returns-in-NotSplit g c =
     let same = c.next-in-loop.ensures.pass in
     let fault = c.in-NotSplit.fault in
     let full : next_full w mid ≡ Some name = sym c.in-Ok-Some.ensures.next.1 ∙ c.in-Ok-Some.field-0-is in
+    let next : IsNextFault (moves_of mid.origin) fault = subst (λ (k : Known). IsNextFault (moves_of k.origin) fault) same c.in-NotSplit.ensures.fault in
     let ends : SplitEnds w name mid new (NotSplit fault) = subst (λ (k : Known). SplitEnds w name k new (NotSplit fault)) same c.in-NotSplit.ensures.ends in
     record {
       settles = record {
@@ -69,7 +70,7 @@ returns-in-NotSplit g c =
         ends = inr (
           name,
           full,
-          subst IsSettleFault (sym c.settle_fault.ensures.fault) c.settle_fault.ensures.settles,
+          subst (IsSettleFault (moves_of mid.origin)) (sym c.settle_fault.ensures.fault) (next-settles (moves_of mid.origin) fault c.settle_fault.ensures.roomy next),
           subst (λ (f : BookFault). SplitEnds w name mid new (NotSplit f)) (sym c.settle_fault.ensures.fault) ends,
         );
       };
