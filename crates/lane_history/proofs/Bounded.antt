@@ -1,5 +1,5 @@
 -- The history of lanes that were played stays below its limits.
-use Rattle.std.proofs.Common.{◌≡◌, ◌⊎◌, inl, inr, ℕ, zero, suc, ◌+◌, ◌*◌, ◌<◌, ◌≤◌, Bool, true, false, ◌||◌, cond, List, [], length, take, drop, get_or, Some, refl, sym, ap, subst, ◌∙◌, arith}
+use Rattle.std.proofs.Common.{◌≡◌, ◌⊎◌, inl, inr, ℕ, zero, suc, ◌+◌, ◌*◌, ◌<◌, ◌≤◌, Bool, true, false, ◌||◌, cond, List, length, take, drop, get_or, Some, refl, sym, ap, subst, ◌∙◌, arith}
 use mathlib.Core.List.{IsPrefix}
 use Rattle.std.specs.Prelude.{nat_lt, slice_get}
 use Rattle.std.proofs.Math.Seq.{take-suc}
@@ -15,12 +15,12 @@ use Rattle.commit_book.specs.Refusals.{has_no_room, most_events_to_begin}
 use Rattle.book_lock.specs.Pass.{Known}
 use Rattle.book_lock.specs.declared.origin.Origin.{Origin}
 use Rattle.book_lock.proofs.Histories.{prefix_refl, prefix_length}
-use Rattle.sessions.specs.Shared.{start_of}
+use Rattle.sessions.specs.Shared.{start_of, moves_of}
 use Rattle.sessions.specs.Steps.{cells_at}
 use Rattle.sessions.specs.declared.store.lanes.Lane.{Lane}
 use Rattle.lane_history.specs.Lanes.{IsPlayedOut, GoesOn}
 use Rattle.sessions.proofs.SettleLemmas.{cells-added}
-use Rattle.lane_history.specs.Settled.{IsBounded}
+use Rattle.lane_history.specs.Settled.{IsBounded, IsPlayStart}
 use Rattle.lane_history.proofs.Weights.{weight, weight-all, all_below, at, at-is, below-take}
 use Rattle.lane_history.proofs.Entries.{begins, calls, ends, fails, one-kind, legal-begin, open-few}
 use Rattle.lane_history.proofs.Fails.{FailsAlone, alone-front, one-fail}
@@ -51,11 +51,11 @@ pub goes-prefix : {I D O P : Type 0} (w : ℕ) (lanes : List (Lane I D O P)) (pa
 goes-prefix w lanes pass last (inl same) = subst (λ (k : Known). IsPrefix pass.seen k.seen) (sym same) (prefix_refl pass.seen)
 goes-prefix w lanes pass last (inr after) = (settles-same w pass last after.result after.settles).0
 
-pub joined : {I D O P : Type 0} (w : ℕ) (origin : Origin) (rows : List InRow) (sessions : List ℕ) (lanes : List (Lane I D O P)) (last : Known) (out : IsPlayedOut w origin rows sessions lanes last)
+pub joined : {I D O P : Type 0} (w : ℕ) (origin : Origin) (rows : List InRow) (sessions : List ℕ) (lanes : List (Lane I D O P)) (last : Known) (out : IsPlayedOut w origin rows sessions lanes last) → moves_of origin ≡ false
     → AreJoined origin last.seen out.pass.own (length rows)
-joined w origin rows sessions lanes last out =
+joined w origin rows sessions lanes last out still =
     joined-from origin last.seen out.pass.own lanes (rows_of 1 rows sessions) (length rows) (λ g n. lanes-weight g out.pass.own lanes out.joined.owned n)
-    (together w origin last.seen rows sessions lanes out.pass out.played out.joined.seen (goes-prefix w lanes out.pass last out.goes_on)) (rows-few 1 0 rows sessions out.sessions_are.rise)
+    (together w origin last.seen rows sessions lanes out.pass still out.played out.joined.seen (goes-prefix w lanes out.pass last out.goes_on)) (rows-few 1 0 rows sessions out.sessions_are.rise)
 
 -- What the last pass comes to, in what it owns: it may have begun one split more than it ended.
 record AreLast (origin : Origin) (h : List Entry) (own : List ℕ) (most : ℕ) : Type 0 where
@@ -70,12 +70,12 @@ last-pairs origin h pass last most joined pairs = record {
   few = let x = joined.few in let z = pairs.calls_are (length h) in omega arith;
 }
 
-last-goes : {I D O P : Type 0} (w : ℕ) (origin : Origin) (lanes : List (Lane I D O P)) (pass last : Known) (most : ℕ) → pass.origin ≡ origin → AreJoined origin last.seen pass.own most → GoesOn w lanes pass last → AreLast origin last.seen last.own most
-last-goes w origin lanes pass last most from joined (inl same) =
+last-goes : {I D O P : Type 0} (w : ℕ) (origin : Origin) (lanes : List (Lane I D O P)) (pass last : Known) (most : ℕ) → pass.origin ≡ origin → moves_of origin ≡ false → AreJoined origin last.seen pass.own most → GoesOn w lanes pass last → AreLast origin last.seen last.own most
+last-goes w origin lanes pass last most from still joined (inl same) =
     let h = last.seen in
     let now : AreJoined origin h last.own most = subst (λ (k : Known). AreJoined origin h k.own most) (sym same) joined in
     record { fair = λ n. let x = now.fair n in omega arith; room = now.room; few = now.few }
-last-goes w origin lanes pass last most from joined (inr after) = last-pairs origin last.seen pass last most joined (settles-pairs w origin last.seen pass last after.result from after.settles (prefix_refl last.seen))
+last-goes w origin lanes pass last most from still joined (inr after) = last-pairs origin last.seen pass last most joined (settles-pairs w origin last.seen still pass last after.result from after.settles (prefix_refl last.seen))
 
 -- the cells of one entry more
 next-cells : (origin : Origin) (h : List Entry) (n : ℕ) → n < length h → cells_at origin (take (suc n) h) ≤ cells_at origin (take n h) + 1
@@ -140,10 +140,10 @@ record AreBelow (origin : Origin) (h : List Entry) (most : ℕ) : Type 0 where
   pub few : all_below (at calls h) (length h) ≤ most
   pub alone : FailsAlone h
 
-are-below : {I D O P : Type 0} (w : ℕ) (origin : Origin) (rows : List InRow) (sessions : List ℕ) (lanes : List (Lane I D O P)) (last : Known) → IsPlayedOut w origin rows sessions lanes last → AreBelow origin last.seen (length rows)
-are-below w origin rows sessions lanes last out =
+are-below : {I D O P : Type 0} (w : ℕ) (origin : Origin) (rows : List InRow) (sessions : List ℕ) (lanes : List (Lane I D O P)) (last : Known) → IsPlayedOut w origin rows sessions lanes last → moves_of origin ≡ false → AreBelow origin last.seen (length rows)
+are-below w origin rows sessions lanes last out still =
     let h = last.seen in
-    let end = last-goes w origin lanes out.pass last (length rows) out.joined.begins (joined w origin rows sessions lanes last out) out.goes_on in
+    let end = last-goes w origin lanes out.pass last (length rows) out.joined.begins still (joined w origin rows sessions lanes last out still) out.goes_on in
     let whole : (g : ℕ → ℕ) (n : ℕ) → n ≤ length h → weight g last.own n ≡ all_below g n = (λ g n le. weight-all g last.own (length h) out.whole n le) in
     let none : all_below (crowd h (bad origin h)) (length h) ≡ 0 = sym (whole (crowd h (bad origin h)) (length h) (omega arith)) ∙ end.room (length h) in
     record {
@@ -199,10 +199,11 @@ below-most true n rows few less = omega arith
 below-most false n rows few less = omega arith
 
 pub bounded : {I D O P : Type 0} (w : ℕ) (origin : Origin) (rows : List InRow) (sessions : List ℕ) (lanes : List (Lane I D O P)) (last : Known) → IsPlayedOut w origin rows sessions lanes last
-    → IsLegal w (start_of origin) last.seen → length rows ≤ 65536 → cells_at origin [] ≤ 16000000 → IsBounded origin last.seen
-bounded w origin rows sessions lanes last out legal few_rows few_cells =
+    → IsLegal w (start_of origin) last.seen → length rows ≤ 65536 → IsPlayStart origin → IsBounded origin last.seen
+bounded w origin rows sessions lanes last out legal few_rows start =
     let h = last.seen in
-    let below = are-below w origin rows sessions lanes last out in
+    let few_cells = start.few in
+    let below = are-below w origin rows sessions lanes last out start.still in
     record {
       short = λ g pre.
           let le = prefix_length g h pre in

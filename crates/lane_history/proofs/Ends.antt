@@ -1,5 +1,5 @@
 -- What the splits at the end add to a pass's own positions.
-use Rattle.std.proofs.Common.{◌≡◌, inl, inr, ℕ, ◌+◌, Bool, List, [], ◌∷◌, length, Result, Ok, Err, refl, sym, ap, subst, ◌∙◌, arith}
+use Rattle.std.proofs.Common.{◌≡◌, inl, inr, ℕ, ◌+◌, Bool, false, List, [], ◌∷◌, length, Result, Ok, Err, refl, sym, ap, subst, ◌∙◌, arith}
 use mathlib.Core.List.{IsPrefix}
 use Rattle.plain_list.specs.declared.entries.Entry.{Entry}
 use Rattle.plain_list.specs.declared.entries.Entry.TheVariants.{Begin, Install}
@@ -9,6 +9,7 @@ use Rattle.commit_book.specs.declared.faults.BookFault.TheVariants as book
 use Rattle.book_lock.specs.Pass.{Known}
 use Rattle.book_lock.specs.declared.origin.Origin.{Origin}
 use Rattle.book_lock.proofs.Histories.{prefix_trans, prefix_length}
+use Rattle.sessions.specs.Shared.{moves_of}
 use Rattle.sessions.specs.Splits.{SplitEnds, SamePass, state_of}
 use Rattle.sessions.specs.Settles.{SplitsAll, SettleEnds, Settles}
 use Rattle.sessions.specs.declared.faults.Settled.{Settled}
@@ -38,7 +39,7 @@ settles-same w old new result settles = same-later old settles.mid new (all-spli
 abbrev pub EndPairs : Origin → List Entry → Type 0 → Known → Known → Type 0
 EndPairs origin h All old new = Pairs h (bad origin h) All old.own new.own (length old.seen) (length new.seen)
 
-module _ (w : ℕ) (origin : Origin) (h : List Entry) where
+module _ (w : ℕ) (origin : Origin) (h : List Entry) (still : moves_of origin ≡ false) where
   one-pair : (number : ℕ) (name : List Bool) (old new : Known) → old.origin ≡ origin → SplitEnds w name old new (Installed number) → IsPrefix new.seen h → EndPairs origin h (Unit {0}) old new
   one-pair number name old new from (mid, begins, installs) pre =
       let mid-pre = prefix_trans mid.seen new.seen h (installs-same w number mid new (Ok tt) installs).0 pre in
@@ -47,7 +48,7 @@ module _ (w : ℕ) (origin : Origin) (h : List Entry) where
       let c = prefix_length mid.seen installs.step.before installs.step.later in
       let d = length-added mid new installs.step.before (Install number) installs.step.leaves in
       pairs-end h (bad origin h) old.own mid.own new.own (length old.seen) (length new.seen) (length begins.before) (length installs.step.before) number name (Install number) a (omega arith) (omega arith)
-      (puts-added h old mid begins.before (Begin number name) begins.leaves mid-pre) (begun-room w origin h name old mid number from begins mid-pre) refl
+      (puts-added h old mid begins.before (Begin number name) begins.leaves mid-pre) (begun-room w origin h name old mid number from still begins mid-pre) refl
       (puts-added h mid new installs.step.before (Install number) installs.step.leaves pre)
 
   all-pairs : (old : Known) (numbers : List ℕ) (new : Known) → old.origin ≡ origin → SplitsAll w old numbers new → IsPrefix new.seen h → EndPairs origin h (Unit {0}) old new
@@ -77,7 +78,7 @@ module _ (w : ℕ) (origin : Origin) (h : List Entry) where
   end-any : (mid new : Known) (result : Result Settled BookFault) → mid.origin ≡ origin → SettleEnds w mid new result → IsPrefix new.seen h → EndPairs origin h ⊥ mid new
   end-any mid new (Ok s) from ends pre = end-well ⊥ mid new s ends pre
   end-any mid new (Err fault) from (inl (tells, same)) pre = end-idle ⊥ mid new (settle-ends-same w mid new (Err fault) (inl (tells, same))) (inl (ap (λ (k : Known). k.own) same))
-  end-any mid new (Err fault) from (inr (name, full, is, ends)) pre = end-try mid new (split-same w name mid new (NotSplit fault) ends) (tried w origin h name mid new (NotSplit fault) from ends pre)
+  end-any mid new (Err fault) from (inr (name, full, is, ends)) pre = end-try mid new (split-same w name mid new (NotSplit fault) ends) (tried w origin h still name mid new (NotSplit fault) from ends pre)
 
   before-end : (old new : Known) (result : Result Settled BookFault) → old.origin ≡ origin → (settles : Settles w old new result) → IsPrefix new.seen h → EndPairs origin h (Unit {0}) old settles.mid
   before-end old new result from settles pre =

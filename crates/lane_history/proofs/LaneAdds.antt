@@ -19,7 +19,6 @@ use Rattle.commit_book.specs.declared.faults.BookFault.{BookFault}
 use Rattle.commit_book.specs.declared.faults.BookFault.TheVariants as book
 use Rattle.commit_book.specs.Refusals.{closed_refusal, call_refusal}
 use Rattle.sessions.specs.Shared.{start_of}
-use Rattle.sessions.specs.Steps.{cells_at}
 use Rattle.sessions.specs.Calls.{Called, IsAnswered, call_cause}
 use Rattle.sessions.specs.Lanes.{KeepsRow, KeepsAll, Stops}
 use Rattle.sessions.specs.declared.faults.CallFault.{CallFault}
@@ -84,8 +83,7 @@ answered-none op (Some (book.NotOpen number)) cell never is = absurd (cc is)
 
 call-sound : (w s row : ℕ) (op : Op) (old new : Known) (cell : ℕ) (c : Called w s row op old new (Err (Disk cell))) → failed_cell c.before ≡ None
 call-sound w s row op old new cell c =
-    let cells = cells_at old.origin c.before in
-    let none = answered-none op (call_cause old.origin op cells c.before) cell (call_cause-disk cell old.origin op cells c.before) c.answered in
+    let none = answered-none op (call_cause old.origin op c.cells c.before) cell (call_cause-disk cell old.origin op c.cells c.before) c.answered in
     not-closed c.before (first-front (closed_refusal c.before) _ (first-front (call_refusal old.origin.kept c.before) _ none))
 
 -- how a lane ends behind the rows that it kept: with a call more that it didn't keep, or none

@@ -38,13 +38,13 @@ at-most-one : (result : Result Settled BookFault) → most_stray result ≤ 1
 at-most-one (Ok s) = omega arith
 at-most-one (Err fault) = omega arith
 
-module _ {I D O P : Type 0} (w : ℕ) (origin : Origin) (rows : List InRow) (sessions : List ℕ) (lanes : List (Lane I D O P)) (last : Known) (out : IsPlayedOut w origin rows sessions lanes last) where
+module _ {I D O P : Type 0} (w : ℕ) (origin : Origin) (rows : List InRow) (sessions : List ℕ) (lanes : List (Lane I D O P)) (last : Known) (out : IsPlayedOut w origin rows sessions lanes last) (start : IsPlayStart origin) where
   -- where nobody settled, all begins are those of the lanes
   same-begins : last ≡ out.pass → sum_of begins last.seen ≤ sum_of calls last.seen
   same-begins same =
       let h = last.seen in
       let n : ℕ = length h in
-      let join : AreJoined origin h last.own (length rows) = subst (λ (k : Known). AreJoined origin h k.own (length rows)) (sym same) (joined w origin rows sessions lanes last out) in
+      let join : AreJoined origin h last.own (length rows) = subst (λ (k : Known). AreJoined origin h k.own (length rows)) (sym same) (joined w origin rows sessions lanes last out start.still) in
       let fair = join.fair n in
       let b = weight-all (at begins h) last.own n out.whole n (omega arith) ∙ below-take begins h n (omega arith) ∙ ap (sum_of begins) (take_all n h (omega arith)) in
       let c = weight-all (at calls h) last.own n out.whole n (omega arith) ∙ below-take calls h n (omega arith) ∙ ap (sum_of calls) (take_all n h (omega arith)) in
@@ -63,9 +63,9 @@ module _ {I D O P : Type 0} (w : ℕ) (origin : Origin) (rows : List InRow) (ses
   settled-stray after =
       let pass = out.pass in
       let from = out.joined.begins in
-      let pairs = settles-pairs w origin last.seen pass last after.result from after.settles (prefix_refl last.seen) in
+      let pairs = settles-pairs w origin last.seen start.still pass last after.result from after.settles (prefix_refl last.seen) in
       let pre = (settles-same w pass last after.result after.settles).0 in
-      let fair = lanes-begins ⊥ origin pass last (length rows) (joined w origin rows sessions lanes last out) pairs out.whole pre in
+      let fair = lanes-begins ⊥ origin pass last (length rows) (joined w origin rows sessions lanes last out start.still) pairs out.whole pre in
       let few = few-stray w origin (most_stray after.result) pass last (goes-stray w origin pass last after.result from after.all after.settles) fair in
       let one = at-most-one after.result in
       omega arith
@@ -78,8 +78,8 @@ module _ {I D O P : Type 0} (w : ℕ) (origin : Origin) (rows : List InRow) (ses
   by_end (inr after) = (settled-stray after, inr (whole w origin rows sessions lanes last out after.calm))
 
   -- However the lanes end, their history stays within its limits.
-  pub within_limits : IsLegal w (start_of origin) last.seen → length rows ≤ 65536 → IsPlayStart origin → IsWithinLimits w origin.bucket (start_of origin) (first_cells origin) rows last.seen
-  within_limits legal few_rows start =
-      let limits = bounded w origin rows sessions lanes last out legal few_rows start.few in
+  pub within_limits : IsLegal w (start_of origin) last.seen → length rows ≤ 65536 → IsWithinLimits w origin.bucket (start_of origin) (first_cells origin) rows last.seen
+  within_limits legal few_rows =
+      let limits = bounded w origin rows sessions lanes last out legal few_rows start in
       let ends = by_end out.goes_on in
       record { entries = subst (λ (k : Bool). length last.seen < most_events k) start.kept (limits.short last.seen (prefix_refl last.seen)); cells = limits.few last.seen (prefix_refl last.seen); stray = ends.0; begins = ends.1 }

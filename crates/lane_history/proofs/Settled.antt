@@ -74,10 +74,10 @@ settled w origin rows sessions lanes last s out all settles legal few_rows start
     let h = last.seen in
     let pass = out.pass in
     let from = out.joined.begins in
-    let limits = bounded w origin rows sessions lanes last out legal few_rows start.few in
+    let limits = bounded w origin rows sessions lanes last out legal few_rows start in
     let calm : IsCalm origin h = record { going = going; bounded = limits } in
-    let join = joined w origin rows sessions lanes last out in
-    let pairs = settles-well w origin h pass last s from settles (prefix_refl h) in
+    let join = joined w origin rows sessions lanes last out start.still in
+    let pairs = settles-well w origin h start.still pass last s from settles (prefix_refl h) in
     let pre = (settles-same w pass last (Ok s) settles).0 in
     let same = all-splits-same w pass settles.numbers settles.mid settles.splits in
     let ended = none-open w origin h legal (even-sums origin pass last (length rows) join pairs out.whole calm) in
@@ -85,7 +85,7 @@ settled w origin rows sessions lanes last s out all settles legal few_rows start
       ended = ended;
       going = going;
       sized = subst (λ (k : Bool). IsSized w origin.bucket (world_after origin.world h) (state_after w (start_of origin) h).leaves ⊎ ((most_events_to_begin k < length h) ⊎ (16000000 < cells_at origin h))) start.kept
-          (ended-sized w origin settles.mid last s (ap (λ (k : Known). k.origin) same.1 ∙ from) (ap (λ (k : Known). k.parts) same.1 ∙ all) settles.ends ended);
+          (ended-sized w origin settles.mid last s (ap (λ (k : Known). k.origin) same.1 ∙ from) start.still (ap (λ (k : Known). k.parts) same.1 ∙ all) settles.ends ended);
       stray =
           let few = few-stray w origin 0 pass last (goes-stray w origin pass last (Ok s) from all settles) (lanes-begins (Unit {0}) origin pass last (length rows) join pairs out.whole pre) in
           omega arith;

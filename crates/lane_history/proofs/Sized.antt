@@ -16,12 +16,13 @@ use Rattle.commit_book.specs.declared.faults.BookFault.TheVariants as book
 use Rattle.commit_book.proofs.SizedLeaves.{sized-none}
 use Rattle.book_lock.specs.Pass.{Known}
 use Rattle.book_lock.specs.declared.origin.Origin.{Origin}
-use Rattle.sessions.specs.Shared.{start_of}
+use Rattle.sessions.specs.Shared.{start_of, moves_of}
 use Rattle.sessions.specs.Steps.{all_parts, cells_at}
 use Rattle.sessions.specs.Splits.{begin_cause, state_of}
 use Rattle.sessions.specs.Settles.{SettleEnds}
 use Rattle.sessions.specs.declared.faults.Settled.{Settled}
 use Rattle.sessions.specs.declared.faults.Settled.TheVariants.{Small, Room}
+use Rattle.lane_history.proofs.Steps.{begins-exact}
 use Rattle.lane_history.proofs.Tidy.{end-seen}
 
 sized-full : (w size : ℕ) (o : State) (h : List Entry) → (state_after w o h).splits ≡ [] → full_leaf w size (state_after w o h) ≡ None → IsSized w size (world_after o.world h) (state_after w o h).leaves
@@ -82,16 +83,16 @@ refused-room None cells events (inl memory) = absurd (cc memory)
 refused-room None cells events (inr disk) = absurd disk
 refused-room (Some cause) cells events is = let same : book.Room cells events ≡ cause = cc is in ap is_room (sym same)
 
-pub ended-sized : (w : ℕ) (origin : Origin) (mid last : Known) (s : Settled) → mid.origin ≡ origin → mid.parts ≡ all_parts → SettleEnds w mid last (Ok s) → (state_after w (start_of origin) last.seen).splits ≡ []
+pub ended-sized : (w : ℕ) (origin : Origin) (mid last : Known) (s : Settled) → mid.origin ≡ origin → moves_of origin ≡ false → mid.parts ≡ all_parts → SettleEnds w mid last (Ok s) → (state_after w (start_of origin) last.seen).splits ≡ []
     → IsSized w origin.bucket (world_after origin.world last.seen) (state_after w (start_of origin) last.seen).leaves ⊎ ((most_events_to_begin origin.kept < length last.seen) ⊎ (16000000 < cells_at origin last.seen))
-ended-sized w origin mid last Small from all (tells, same) ended =
+ended-sized w origin mid last Small from still all (tells, same) ended =
     let none : full_leaf w origin.bucket (state_after w (start_of origin) last.seen) ≡ None =
     (λ i. full_leaf w (sym from i).bucket (state_after w (start_of (sym from i)) (same i).seen)) ∙ sym tells.1 in
     inl (sized-full w origin.bucket (start_of origin) last.seen ended none)
-ended-sized w origin mid last Room from all (name, full, cells, events, begins) ended =
+ended-sized w origin mid last Room from still all (name, full, cells, events, begins) ended =
     let seen : begins.before ≡ last.seen = begins.alone all ∙ sym (end-seen w mid last Room all (name, full, cells, events, begins)) in
     let there = cells_at mid.origin begins.before in
-    let cause = refused-room (begin_cause w mid.origin name there begins.before) cells events begins.refused in
+    let cause = refused-room (begin_cause w mid.origin name there begins.before) cells events (begins-exact w name mid last (Err (book.Room cells events)) (ap moves_of from ∙ still) begins) in
     let room = room-cause (closed_refusal begins.before) (room_refusal mid.origin.kept there (length begins.before)) (leaf_refusal w (state_of w mid.origin begins.before) name)
     (closed-other begins.before) (leaf-other w (state_of w mid.origin begins.before) name) cause in
     inr (subst (λ (z : Origin × List Entry). (most_events_to_begin z.0.kept < length z.1) ⊎ (16000000 < cells_at z.0 z.1)) (λ i. (from i, seen i)) (past-room mid.origin.kept there (length begins.before) room))

@@ -20,7 +20,7 @@ use Rattle.commit_book.specs.declared.faults.BookFault.TheVariants.{Closed, Disk
 use Rattle.book_lock.specs.Pass.{Known}
 use Rattle.book_lock.specs.declared.origin.Origin.{Origin}
 use Rattle.sessions.specs.Shared.{start_of}
-use Rattle.sessions.specs.Steps.{Leaves, cells_at}
+use Rattle.sessions.specs.Steps.{Leaves}
 use Rattle.sessions.specs.Calls.{call_cause}
 use Rattle.sessions.specs.Splits.{begin_cause, state_of, BeginsSplit, InstallsSplit, AbandonsSplit, GivesUp, RanOut, NotInstalled, SplitEnds}
 use Rattle.sessions.specs.Settles.{SplitsAll, SettleEnds}
@@ -145,9 +145,9 @@ begins-quiet w name old new r step =
     loses : (cell : ℕ) → r ≡ Err (Disk cell) → SplitLost w old step.before (lost.Begin ((state_of w old.origin step.before).begun + 1) name) × (failed_cell step.before ≡ None)
     loses cell is =
         let s = state_of w old.origin step.before in
-        let refused : IsRefusedBy IsMemoryOrDisk (begin_cause w old.origin name (cells_at old.origin step.before) step.before) (Err (Disk cell)) = subst (λ (x : Result ℕ BookFault). IsRefusedBy IsMemoryOrDisk (begin_cause w old.origin name (cells_at old.origin step.before) step.before) x) is step.refused in
-        let none = no-cause cell ℕ IsMemoryOrDisk (begin_cause w old.origin name (cells_at old.origin step.before) step.before) (begin-disk cell w old.origin name (cells_at old.origin step.before) step.before) refused in
-        let leaf : leaf_refusal w s name ≡ None = first-none (room_refusal old.origin.kept (cells_at old.origin step.before) (length step.before)) (leaf_refusal w s name) (first-none (closed_refusal step.before) _ none) in (
+        let refused : IsRefusedBy IsMemoryOrDisk (begin_cause w old.origin name step.cells step.before) (Err (Disk cell)) = subst (λ (x : Result ℕ BookFault). IsRefusedBy IsMemoryOrDisk (begin_cause w old.origin name step.cells step.before) x) is step.refused in
+        let none = no-cause cell ℕ IsMemoryOrDisk (begin_cause w old.origin name step.cells step.before) (begin-disk cell w old.origin name step.cells step.before) refused in
+        let leaf : leaf_refusal w s name ≡ None = first-none (room_refusal old.origin.kept step.cells (length step.before)) (leaf_refusal w s name) (first-none (closed_refusal step.before) _ none) in (
           and_from _ (not (is_splitting s.splits name)) (and_from _ (may_split w s name) (eq-eqb (s.begun + 1) (s.begun + 1) refl) (leaf-may w s name leaf)) (leaf-free w s name leaf),
           not-closed step.before (first-front (closed_refusal step.before) _ none),
         )
@@ -163,12 +163,12 @@ end-sound IsFree r kept cells before cell is refused =
 pub installs-quiet : (w number : ℕ) (old new : Known) (r : Result (Unit {0}) BookFault) → InstallsSplit w number old new r → AddsQuiet (SplitLost w old) old new
 installs-quiet w number old new r ends =
     step-quiet (SplitLost w old) (λ (done : Unit {0}). Install number) (λ before. lost.Install number) old new ends.step.before ends.step.later r (λ done. tt) (λ done t. refl)
-    (λ cell is. (ends.is_open, end-sound IsMemoryOrDisk r old.origin.kept (cells_at old.origin ends.step.before) ends.step.before cell is ends.step.refused)) ends.step.leaves
+    (λ cell is. (ends.is_open, end-sound IsMemoryOrDisk r old.origin.kept ends.step.cells ends.step.before cell is ends.step.refused)) ends.step.leaves
 
 pub abandons-quiet : (w number : ℕ) (old new : Known) (r : Result (Unit {0}) BookFault) → AbandonsSplit w number old new r → AddsQuiet (SplitLost w old) old new
 abandons-quiet w number old new r ends =
     step-quiet (SplitLost w old) (λ (done : Unit {0}). Abandon number) (λ before. lost.Abandon number) old new ends.step.before ends.step.later r (λ done. tt) (λ done t. refl)
-    (λ cell is. (ends.is_open, end-sound IsDisk r old.origin.kept (cells_at old.origin ends.step.before) ends.step.before cell is ends.step.refused)) ends.step.leaves
+    (λ cell is. (ends.is_open, end-sound IsDisk r old.origin.kept ends.step.cells ends.step.before cell is ends.step.refused)) ends.step.leaves
 
 -- one after the other
 pub quiet-then : (w : ℕ) (old mid new : Known) → AddsQuiet (SplitLost w old) old mid → AddsQuiet (SplitLost w mid) mid new → AddsQuiet (SplitLost w old) old new

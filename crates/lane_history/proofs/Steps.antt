@@ -1,5 +1,5 @@
 -- What the steps of a pass add to its own positions, in a history that begins with all that it has seen.
-use Rattle.std.proofs.Common.{◌≡◌, ◌⊎◌, inl, inr, ℕ, ◌+◌, ◌≤◌, ◌==◌, Bool, false, ◌||◌, cond, List, [], ◌∷◌, ◌++◌, length, take, Option, Some, None, Ok, Err, refl, sym, ap, subst, ◌∙◌, arith, length-append, ne_eqb}
+use Rattle.std.proofs.Common.{◌≡◌, ◌⊎◌, inl, inr, ℕ, ◌+◌, ◌≤◌, ◌==◌, Bool, false, ◌||◌, cond, List, [], ◌∷◌, ◌++◌, length, take, Option, Some, None, Result, Ok, Err, refl, sym, ap, subst, ◌∙◌, arith, length-append, ne_eqb}
 use mathlib.Core.List.{IsPrefix}
 use Rattle.std.specs.Prelude.{nat_lt, if◌then◌else◌}
 use Rattle.std.specs.Option.{option_map}
@@ -8,6 +8,7 @@ use Rattle.std.proofs.lemmas.Bool.{le-ltb}
 use Rattle.plain_list.specs.declared.entries.Entry.{Entry}
 use Rattle.plain_list.specs.declared.entries.Entry.TheVariants.{Fail, Call, Begin, Install, Abandon}
 use Rattle.plain_list.specs.declared.entries.Lost.{Lost}
+use Rattle.plain_list.specs.declared.entries.Lost.TheVariants as lost
 use Rattle.plain_list.specs.History.{failed_cell}
 use Rattle.commit_book.specs.IsBook.{most_events}
 use Rattle.commit_book.specs.Refusals.{IsRefusedBy, IsDisk, IsMemoryOrDisk, first_of, closed_refusal, room_refusal, end_refusal, leaf_refusal, has_no_room, most_cells, most_events_to_begin}
@@ -16,9 +17,11 @@ use Rattle.commit_book.specs.declared.faults.BookFault.TheVariants as book
 use Rattle.book_lock.specs.Pass.{Known}
 use Rattle.book_lock.specs.declared.origin.Origin.{Origin}
 use Rattle.book_lock.proofs.Histories.{get_prefix, get_last, prefix_trans}
+use Rattle.sessions.specs.Shared.{moves_of}
 use Rattle.sessions.specs.Steps.{IsStep, Leaves, has_added, has_seen, cells_at}
-use Rattle.sessions.specs.Splits.{BeginsSplit, IsLasting, begin_cause, state_of}
+use Rattle.sessions.specs.Splits.{BeginsSplit, IsLasting, IsNextSplit, begin_cause, state_of}
 use Rattle.sessions.proofs.SettleLemmas.{allowed, has-room}
+use Rattle.sessions.proofs.Exact.{step-exact}
 use Rattle.lane_history.specs.Settled.{IsBounded}
 use Rattle.lane_history.proofs.Gains.{Puts, Idles}
 
@@ -148,18 +151,26 @@ calm-end origin h before calm pre =
     λ i. first_of (first_of (option_map book.Closed (going i)) (cond (events i) (Some book.HistoryFull) None)) (cond (full i) (Some book.LogFull) None)
 
 -- so an end that isn't done fails the history's calm, unless the fault is free to come and no failure of the drive
-pub calm-not : {A : Type 0} (IsFree : BookFault → Type 0) (entry : A → Entry) (lost : List Entry → Lost) (P : List Entry → A → Type 0) (origin : Origin) (h : List Entry) (old new : Known) (fault : BookFault) → old.origin ≡ origin
+pub calm-not : {A : Type 0} (IsFree : BookFault → Type 0) (entry : A → Entry) (lost : List Entry → Lost) (P : List Entry → A → Type 0) (origin : Origin) (h : List Entry) (old new : Known) (fault : BookFault) → old.origin ≡ origin → moves_of origin ≡ false
     → IsStep IsFree (λ (cells : ℕ) (before : List Entry). end_refusal old.origin.kept cells before) entry lost P old new (Err fault) → (IsFree fault → IsDisk fault) → IsPrefix new.seen h → IsCalm origin h → ⊥
-calm-not {A} IsFree entry lost P origin h old new fault from step disk pre calm =
+calm-not {A} IsFree entry lost P origin h old new fault from still step disk pre calm =
     let before = left-before entry lost h old step.before new fault step.leaves pre in
     let none : end_refusal old.origin.kept (cells_at old.origin step.before) step.before ≡ None = ap (λ (o : Origin). end_refusal o.kept (cells_at o step.before) step.before) from ∙ calm-end origin h step.before calm before in
-    let free : IsFree fault = subst (λ (o : Option BookFault). IsRefusedBy {A = A} IsFree o (Err fault)) none step.refused in
+    let refused : IsRefusedBy {A = A} IsFree (end_refusal old.origin.kept (cells_at old.origin step.before) step.before) (Err fault) =
+    step-exact IsFree (λ (cells : ℕ) (g : List Entry). end_refusal old.origin.kept cells g) entry lost P old new (Err fault) (ap moves_of from ∙ still) step in
+    let free : IsFree fault = subst (λ (o : Option BookFault). IsRefusedBy {A = A} IsFree o (Err fault)) none refused in
     let (cell, is) = left-disk entry lost h old step.before new fault (disk free) step.leaves in
     going-last step.before cell (lost step.before) (ap failed_cell (sym (seen-added old new step.before (Fail cell (lost step.before)) is)) ∙ going-begin new.seen h pre calm.going)
 
 pub lasting-disk : (fault : BookFault) → IsLasting fault → IsMemoryOrDisk fault → IsDisk fault
 lasting-disk fault lasting (inl memory) = absurd (subst IsLasting memory lasting)
 lasting-disk fault lasting (inr disk) = disk
+
+-- where no fresh log may replace the log, the history determines why no split began
+pub begins-exact : (w : ℕ) (name : List Bool) (old new : Known) (result : Result ℕ BookFault) → moves_of old.origin ≡ false → (begins : BeginsSplit w name old new result)
+    → IsRefusedBy IsMemoryOrDisk (begin_cause w old.origin name (cells_at old.origin begins.before) begins.before) result
+begins-exact w name old new result still begins =
+    step-exact IsMemoryOrDisk (begin_cause w old.origin name) (λ (number : ℕ). Begin number name) (λ (h : List Entry). lost.Begin ((state_of w old.origin h).begun + 1) name) (IsNextSplit w old.origin) old new result still begins
 
 -- where a split began there was room
 no-cause : (a b c : Option BookFault) → first_of a (first_of b c) ≡ None → b ≡ None
@@ -173,11 +184,11 @@ not-bad origin h before pre less few =
     let events : nat_lt (most_events_to_begin origin.kept) (length before) ≡ false = le-ltb (most_events_to_begin origin.kept) (length before) less in
     ap (λ (g : List Entry). cond (has_no_room origin.kept (cells_at origin g) (length before)) 1 0) (take-prefix before h pre) ∙ (λ i. cond (cells i || events i) 1 0)
 
-pub begun-room : (w : ℕ) (origin : Origin) (h : List Entry) (name : List Bool) (old new : Known) (number : ℕ) → old.origin ≡ origin → (begins : BeginsSplit w name old new (Ok number)) → IsPrefix new.seen h
+pub begun-room : (w : ℕ) (origin : Origin) (h : List Entry) (name : List Bool) (old new : Known) (number : ℕ) → old.origin ≡ origin → moves_of origin ≡ false → (begins : BeginsSplit w name old new (Ok number)) → IsPrefix new.seen h
     → bad origin h (length begins.before) ≡ 0
-begun-room w origin h name old new number from begins pre =
+begun-room w origin h name old new number from still begins pre =
     let cells = cells_at old.origin begins.before in
-    let none : begin_cause w old.origin name cells begins.before ≡ None = allowed (begin_cause w old.origin name cells begins.before) number begins.refused in
+    let none : begin_cause w old.origin name cells begins.before ≡ None = allowed (begin_cause w old.origin name cells begins.before) number (begins-exact w name old new (Ok number) (ap moves_of from ∙ still) begins) in
     let room = has-room old.origin.kept cells (length begins.before) (no-cause (closed_refusal begins.before) (room_refusal old.origin.kept cells (length begins.before)) (leaf_refusal w (state_of w old.origin begins.before) name) none) in
     let few : cells_at origin begins.before ≤ 16000000 = subst (λ (o : Origin). cells_at o begins.before ≤ 16000000) from room.1 in
     let less : length begins.before ≤ most_events_to_begin origin.kept = subst (λ (o : Origin). length begins.before ≤ most_events_to_begin o.kept) from room.0 in

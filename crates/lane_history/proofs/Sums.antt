@@ -13,6 +13,7 @@ use Rattle.book_lock.specs.Own.{times}
 use Rattle.book_lock.specs.declared.origin.Origin.{Origin}
 use Rattle.book_lock.proofs.Histories.{prefix_trans}
 use Rattle.book_lock.proofs.Positions.{one_if, one_same, one_other}
+use Rattle.sessions.specs.Shared.{moves_of}
 use Rattle.sessions.specs.declared.store.lanes.Lane.{Lane}
 use Rattle.lane_history.specs.SessionRows.{session_rows, session_rows_from}
 use Rattle.lane_history.specs.Lanes.{HaveAllPlayed, HaveSeen, RiseFrom, owned_by}
@@ -106,14 +107,14 @@ pub record Together {I D O P : Type 0} (origin : Origin) (h : List Entry) (lanes
   pub few : lanes_weight (at calls h) lanes (length h) ≤ most
   pub even : IsCalm origin h → lanes_weight (at begins h) lanes (length h) ≤ lanes_weight (at ends h) lanes (length h)
 
-pub together : {I D O P : Type 0} (w : ℕ) (origin : Origin) (h : List Entry) (rows : List InRow) (sessions : List ℕ) (lanes : List (Lane I D O P)) (pass : Known) → HaveAllPlayed w origin rows sessions lanes → HaveSeen lanes pass
-    → IsPrefix pass.seen h → Together origin h lanes (rows_of 1 rows sessions)
-together w origin h rows [] [] pass all seen pre = record { fair = λ n. omega arith; room = λ n. refl; few = omega arith; even = λ calm. omega arith }
-together w origin h rows [] (lane ∷ lanes) pass all seen pre = absurd all
-together w origin h rows (s ∷ sessions) [] pass all seen pre = absurd all
-together w origin h rows (s ∷ sessions) (lane ∷ lanes) pass (played, all) (has_seen, seen) pre =
-    let one = lane-gains w origin h s (session_rows rows s) lane played (prefix_trans lane.pass.seen pass.seen h has_seen pre) in
-    let rest = together w origin h rows sessions lanes pass all seen pre in
+pub together : {I D O P : Type 0} (w : ℕ) (origin : Origin) (h : List Entry) (rows : List InRow) (sessions : List ℕ) (lanes : List (Lane I D O P)) (pass : Known) → moves_of origin ≡ false → HaveAllPlayed w origin rows sessions lanes
+    → HaveSeen lanes pass → IsPrefix pass.seen h → Together origin h lanes (rows_of 1 rows sessions)
+together w origin h rows [] [] pass still all seen pre = record { fair = λ n. omega arith; room = λ n. refl; few = omega arith; even = λ calm. omega arith }
+together w origin h rows [] (lane ∷ lanes) pass still all seen pre = absurd all
+together w origin h rows (s ∷ sessions) [] pass still all seen pre = absurd all
+together w origin h rows (s ∷ sessions) (lane ∷ lanes) pass still (played, all) (has_seen, seen) pre =
+    let one = lane-gains w origin h s (session_rows rows s) lane still played (prefix_trans lane.pass.seen pass.seen h has_seen pre) in
+    let rest = together w origin h rows sessions lanes pass still all seen pre in
     let b0 = weight-nil (at begins h) in
     let c0 = weight-nil (at calls h) in
     let e0 = weight-nil (at ends h) in

@@ -1,5 +1,5 @@
 -- What the tries to split add to a pass's own positions.
-use Rattle.std.proofs.Common.{◌≡◌, inl, inr, ℕ, ◌+◌, Bool, List, length, Option, Some, None, Ok, Err, refl, sym, ap, subst, ◌∙◌, arith}
+use Rattle.std.proofs.Common.{◌≡◌, inl, inr, ℕ, ◌+◌, Bool, false, List, length, Option, Some, None, Ok, Err, refl, sym, ap, subst, ◌∙◌, arith}
 use mathlib.Core.List.{IsPrefix}
 use Rattle.std.specs.Prelude.{⊤}
 use Rattle.plain_list.specs.declared.entries.Entry.{Entry}
@@ -11,6 +11,7 @@ use Rattle.commit_book.specs.declared.faults.BookFault.TheVariants as book
 use Rattle.book_lock.specs.Pass.{Known}
 use Rattle.book_lock.specs.declared.origin.Origin.{Origin}
 use Rattle.book_lock.proofs.Histories.{prefix_trans, prefix_length}
+use Rattle.sessions.specs.Shared.{moves_of}
 use Rattle.sessions.specs.Splits.{BeginsSplit, InstallsSplit, GivesUp, RanOut, NotInstalled, SplitEnds, SamePass, state_of}
 use Rattle.sessions.specs.Lanes.{Tries}
 use Rattle.sessions.specs.declared.faults.Split.{Split}
@@ -28,7 +29,7 @@ has-ran : (w number : ℕ) (mid seen : Known) → RanOut w number mid seen → H
 has-ran w number mid seen (inl same) = record { same = subst (SamePass mid) (sym same) (same-none mid); own = ap (λ (k : Known). k.own) same }
 has-ran w number mid seen (inr step) = record { same = installs-same w number mid seen (Err book.Memory) step; own = ap (λ (k : Known). k.own) step.step.leaves }
 
-module _ (w : ℕ) (origin : Origin) (h : List Entry) where
+module _ (w : ℕ) (origin : Origin) (h : List Entry) (still : moves_of origin ≡ false) where
   -- a split that was given up
   closes-gives : (number : ℕ) (mid seen new : Known) (fault : BookFault) → HasRan mid seen → seen.origin ≡ origin → GivesUp w number seen new fault → IsPrefix new.seen h
       → Closes h (IsCalm origin h) (length mid.seen) mid.own new.own
@@ -40,14 +41,14 @@ module _ (w : ℕ) (origin : Origin) (h : List Entry) where
   closes-gives number mid seen new fault ran from (inr step) pre = inr (
     subst (λ (own : List ℕ). Idles h own new.own) ran.own
         (left-idle (λ (done : Unit {0}). Abandon number) (λ (g : List Entry). lost.Abandon number) h seen step.step.before new fault step.step.leaves pre),
-    calm-not IsDisk (λ (done : Unit {0}). Abandon number) (λ (g : List Entry). lost.Abandon number) (λ (g : List Entry) (done : Unit {0}). ⊤) origin h seen new fault from step.step (λ (free : IsDisk fault). free) pre,
+    calm-not IsDisk (λ (done : Unit {0}). Abandon number) (λ (g : List Entry). lost.Abandon number) (λ (g : List Entry) (done : Unit {0}). ⊤) origin h seen new fault from still step.step (λ (free : IsDisk fault). free) pre,
   )
 
   -- a split that wasn't installed
   closes-not : (number : ℕ) (mid new : Known) (fault : BookFault) → mid.origin ≡ origin → NotInstalled w number mid new fault → IsPrefix new.seen h → Closes h (IsCalm origin h) (length mid.seen) mid.own new.own
   closes-not number mid new fault from (inl (lasting, step)) pre = inr (
     left-idle (λ (done : Unit {0}). Install number) (λ (g : List Entry). lost.Install number) h mid step.step.before new fault step.step.leaves pre,
-    calm-not IsMemoryOrDisk (λ (done : Unit {0}). Install number) (λ (g : List Entry). lost.Install number) (λ (g : List Entry) (done : Unit {0}). ⊤) origin h mid new fault from step.step (lasting-disk fault lasting) pre,
+    calm-not IsMemoryOrDisk (λ (done : Unit {0}). Install number) (λ (g : List Entry). lost.Install number) (λ (g : List Entry) (done : Unit {0}). ⊤) origin h mid new fault from still step.step (lasting-disk fault lasting) pre,
   )
   closes-not number mid new fault from (inr (seen, ran, gives)) pre =
       let has = has-ran w number mid seen ran in
@@ -69,7 +70,7 @@ module _ (w : ℕ) (origin : Origin) (h : List Entry) where
     mid = mid.own;
     later = prefix_length old.seen begins.before begins.later;
     puts = puts-added h old mid begins.before (Begin number name) begins.leaves pre;
-    room = begun-room w origin h name old mid number from begins pre;
+    room = begun-room w origin h name old mid number from still begins pre;
     closes = subst (λ (n : ℕ). Closes h (IsCalm origin h) n mid.own new.own) (length-added old mid begins.before (Begin number name) begins.leaves) closes;
   }
 

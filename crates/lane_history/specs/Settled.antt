@@ -14,6 +14,7 @@ use Rattle.kept_log.specs.Counts.{count_after}
 use Rattle.commit_book.specs.IsBook.{most_events}
 use Rattle.commit_book.specs.Refusals.{most_cells}
 use Rattle.book_lock.specs.declared.origin.Origin.{Origin}
+use Rattle.sessions.specs.Shared.{moves_of}
 use Rattle.sessions.specs.Steps.{cells_at}
 use Rattle.csv_rows.specs.declared.rows.InRow.{InRow}
 use Rattle.lane_history.specs.SessionRows.{session_rows}
@@ -66,7 +67,9 @@ pub record IsBounded (origin : Origin) (h : List Entry) : Type 0 where
   pub short : (g : List Entry) → IsPrefix g h → length g < most_events origin.kept
   pub few : (g : List Entry) → IsPrefix g h → cells_at origin g < most_cells
 
--- where rows may be played: a store that keeps the list of its entries, and whose log has at most 16,000,000 records
+-- where rows may be played: a store that keeps the list of its entries, and whose log has at most 16,000,000 records and
+-- is never replaced
 pub record IsPlayStart (origin : Origin) : Type 0 where
   pub kept : origin.kept ≡ true
   pub few : cells_at origin [] ≤ 16000000
+  pub still : moves_of origin ≡ false

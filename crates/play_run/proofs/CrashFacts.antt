@@ -1,5 +1,5 @@
 -- What a crash leaves of the log of a run.
-use Rattle.std.proofs.Common.{◌≡◌, ◌≢◌, ◌⊎◌, inl, inr, ◌∙◌, ℕ, List, ◌++◌, take, Option, Some, None, is_some, refl, sym, ap, subst}
+use Rattle.std.proofs.Common.{◌≡◌, ◌≢◌, ◌⊎◌, inl, inr, ◌∙◌, ℕ, List, ◌++◌, take, false, Option, Some, None, is_some, refl, sym, ap, subst}
 use Rattle.std.proofs.lemmas.List.{append-nil}
 use Rattle.std.proofs.lemmas.Option.{same_Some}
 use Rattle.cell_format.specs.declared.cell.Cell.{Cell}
@@ -76,9 +76,9 @@ module _ {D : Type 0} (drive : D → Drive) (old : Drive) (log : KeptView D) (fr
       subst (λ (o : State). IsLog from.width (first ++ cells_of o.world h) (drive log.disk)) state
       (kept.keeps.text first bytes (here.bytes ∙ told) (first-recovers old from bytes first found told is) (kept.failed ∙ going whole))
 
-  pub calls-opened : StopsAtFault old (drive log.disk)
-  calls-opened = stops-then old (drive log.start) (drive log.disk) (well-none old (drive log.start) here.calls) (by_case (failed_cell h) refl)
+  pub calls-opened : log.moves ≡ false → StopsAtFault old (drive log.disk)
+  calls-opened still = stops-then old (drive log.start) (drive log.disk) (well-none old (drive log.start) here.calls) (by_case (failed_cell h) refl)
     where
       by_case : (cell : Option ℕ) → failed_cell h ≡ cell → StopsAtFault (drive log.start) (drive log.disk)
       by_case None none = inl (kept.well none)
-      by_case (Some cell) some = inr (kept.stopped (ap is_some some))
+      by_case (Some cell) some = inr (kept.stopped still (ap is_some some))

@@ -8,11 +8,12 @@ use Rattle.disk_trait.proofs.Calls.{attached-still}
 use Rattle.plain_list.specs.declared.entries.Entry.{Entry}
 use Rattle.plain_list.specs.State.{State, empty_state}
 use Rattle.recovery.proofs.OnlyReading.{rose-earlier, stays-trans}
-use Rattle.kept_log.specs.KeptView.{KeptView}
+use Rattle.kept_log.specs.KeptView.{KeptView, Earlier}
 use Rattle.kept_log.specs.Journal.{disk_in, KeepsLog, KeepsIn}
+use Rattle.kept_log.proofs.Moving.{unmoved-keeps, unmoved}
 use Rattle.kept_log.proofs.Waiting.{keeps-at-once}
 use Rattle.commit_book.specs.BookView.{BookView}
-use Rattle.kept_log.specs.Counts.{first_in, count_after}
+use Rattle.kept_log.specs.Counts.{first_of, first_in, count_after}
 use Rattle.csv_rows.specs.declared.rows.InRow.{InRow}
 use Rattle.io_edge.specs.Streams.{Output}
 use Rattle.run_ends.specs.declared.refusals.Refusal.{Refusal}
@@ -32,7 +33,7 @@ use Rattle.lane_history.specs.LostSteps.{IsNextStep, LosesStep}
 use Rattle.play_run.specs.declared.reports.Report.{Report}
 use Rattle.play_run.specs.Answers.{AnswersAsOneList}
 use Rattle.play_run.specs.Playing.{IsStop, EndsRows, IsAnswered}
-use Rattle.play_run.specs.inside.Books.{IsLike, BeginsAs, StopsBook, LeavesLog, OpensBook}
+use Rattle.play_run.specs.inside.Books.{IsLike, IsPlain, BeginsAs, StopsBook, LeavesLog, OpensBook}
 use Rattle.play_run.specs.inside.Ended.{EndsBook}
 use Rattle.play_run.proofs.CrashFacts.{keeps-opened, text-opened, calls-opened}
 
@@ -42,22 +43,34 @@ pub record KeptSince {D : Type 0} (drive : D → Drive) (w : ℕ) (s : State) (h
   pub like : IsLike (drive opened.start) (drive now.start)
   pub first : now.first ≡ opened.first
   pub keeps : KeepsLog drive w s h now
+  pub still : now.moves ≡ false
   pub disk_is : now.disk ≡ disk
 
-since-in : {D : Type 0} (drive : D → Drive) (w : ℕ) (s : State) (h : List Entry) (opened : KeptView D) (disk : D) (old new : Option (KeptView D)) → old ≡ Some opened → opened.at_sync ≡ false → BeginsAs drive old new → first_in new ≡ first_in old → KeepsIn drive w s h new
-    → Some disk ≡ disk_in new → KeptSince drive w s h opened disk
-since-in drive w s h opened disk None new is once begins first keeps told = absurd (cc is)
-since-in drive w s h opened disk (Some old) None is once begins first keeps told = absurd begins
-since-in {D} drive w s h opened disk (Some old) (Some new) is once begins first keeps told = record {
-  now = new;
-  like = subst (λ (v : KeptView D). IsLike (drive v.start) (drive new.start)) (same_Some old opened is) begins.0;
-  first = same_Some new.first old.first first ∙ ap (λ (v : KeptView D). v.first) (same_Some old opened is);
-  keeps = keeps-at-once drive w s h new keeps (begins.1 ∙ ap (λ (v : KeptView D). v.at_sync) (same_Some old opened is) ∙ once);
-  disk_is = sym (same_Some disk new.disk told);
-}
+-- a log that has replaced none tells how many cells it had when it was opened
+first-whole : {D : Type 0} (log : KeptView D) → log.earlier ≡ None → first_in (Some log) ≡ Some log.first
+first-whole {D} log whole = ap (λ (e : Option (Earlier D)). first_of log.first e) whole
 
-pub kept-since : {D : Type 0} (drive : D → Drive) (w : ℕ) (s : State) (h : List Entry) (opened : KeptView D) (disk : D) (log : Option (KeptView D)) → log ≡ Some opened → opened.at_sync ≡ false → LeavesLog drive w s h log (Some disk) → KeptSince drive w s h opened disk
-kept-since drive w s h opened disk log is once leaves = since-in drive w s h opened disk log leaves.log is once leaves.begins leaves.first leaves.keeps leaves.disk_is
+since-in : {D : Type 0} (drive : D → Drive) (w : ℕ) (s : State) (h : List Entry) (opened : KeptView D) (disk : D) (old new : Option (KeptView D)) → old ≡ Some opened → IsPlain opened → BeginsAs drive old new → first_in new ≡ first_in old
+    → KeepsIn drive w s h new → Some disk ≡ disk_in new → KeptSince drive w s h opened disk
+since-in drive w s h opened disk None new is plain begins first keeps told = absurd (cc is)
+since-in drive w s h opened disk (Some old) None is plain begins first keeps told = absurd begins
+since-in {D} drive w s h opened disk (Some old) (Some new) is plain begins first keeps told =
+    let same : old ≡ opened = same_Some old opened is in
+    let still : new.moves ≡ false = begins.2 ∙ ap (λ (v : KeptView D). v.moves) same ∙ plain.still in
+    let count : Some new.first ≡ Some opened.first =
+    sym (first-whole new (unmoved drive w s h new still keeps)) ∙ first ∙ ap (λ (v : KeptView D). first_in (Some v)) same ∙ first-whole opened plain.whole in
+    record {
+      now = new;
+      like = subst (λ (v : KeptView D). IsLike (drive v.start) (drive new.start)) same begins.0;
+      first = same_Some new.first opened.first count;
+      keeps = keeps-at-once drive w s h new (unmoved-keeps drive w s h new still keeps) (begins.1 ∙ ap (λ (v : KeptView D). v.at_sync) same ∙ plain.once);
+      still = still;
+      disk_is = sym (same_Some disk new.disk told);
+    }
+
+pub kept-since : {D : Type 0} (drive : D → Drive) (w : ℕ) (s : State) (h : List Entry) (opened : KeptView D) (disk : D) (log : Option (KeptView D)) → log ≡ Some opened → IsPlain opened → LeavesLog drive w s h log (Some disk)
+    → KeptSince drive w s h opened disk
+kept-since drive w s h opened disk log is plain leaves = since-in drive w s h opened disk log leaves.log is plain leaves.begins leaves.first leaves.keeps leaves.disk_is
 
 -- what a history that ends with a failed append names
 loses-cell : (Step : List Entry → Lost → Type 0) (h : List Entry) (cell : ℕ) → LosesStep Step h cell → failed_cell h ≡ Some cell
@@ -68,8 +81,8 @@ pub log-stop : {D : Type 0} (drive : D → Drive) (file : List ℕ) (rows : List
     → (why : Refusal) → StopsBook (IsNextStep w b.opening rows) h why → IsStop (Some file) opens.from rows old (drive disk) h why
 log-stop drive file rows old w size b h disk opens leaves why (inl (memory, none)) = subst (IsStop (Some file) opens.from rows old (drive disk) h) (sym memory) none
 log-stop {D = D} drive file rows old w size b h disk opens leaves why (inr (cell, is, loses)) =
-    let kept = kept-since drive w b.opening h opens.log disk b.log opens.log_is opens.once leaves in
-    let rose = kept.keeps.rose (ap is_some (loses-cell (IsNextStep w b.opening rows) h cell loses)) in
+    let kept = kept-since drive w b.opening h opens.log disk b.log opens.log_is opens.plain leaves in
+    let rose = kept.keeps.rose kept.still (ap is_some (loses-cell (IsNextStep w b.opening rows) h cell loses)) in
     let calm : (drive kept.now.start).faults ≡ old.faults = kept.like.calm ∙ opens.calm in
     let before : old.faults ≤ (drive kept.now.start).faults = omega (arith, calm) in
     let risen : Rose old.faults (drive disk).faults =
@@ -79,7 +92,8 @@ log-stop {D = D} drive file rows old w size b h disk opens leaves why (inr (cell
     (subst (λ (o : State). LosesStep (IsNextStep w o rows) h cell) opens.state loses) in
     let named : cell ≡ kept.now.cells = kept.keeps.named cell (loses-cell (IsNextStep w b.opening rows) h cell loses) in
     let count : kept.now.cells ≡ opens.log.first + length (cells_of b.opening.world h) = omega (arith, kept.keeps.keeps.count, kept.first) in
-    let cells : Some opens.log.first ≡ option_map length opens.from.first = sym (ap (λ (l : Option (KeptView D)). first_in l) opens.log_is) ∙ opens.count in
+    let cells : Some opens.log.first ≡ option_map length opens.from.first =
+    sym (first-whole opens.log opens.plain.whole) ∙ sym (ap (λ (l : Option (KeptView D)). first_in l) opens.log_is) ∙ opens.count in
     let at : opens.log.first + length (cells_of b.opening.world h) ≡ count_after (option_map length opens.from.first) opens.from.state.world h =
     ap (λ (n : Option ℕ). count_after n b.opening.world h) cells ∙ ap (λ (o : State). count_after (option_map length opens.from.first) o.world h) opens.state in
     subst (IsStop (Some file) opens.from rows old (drive disk) h) (sym is) (record { loses = from; number = named ∙ count ∙ at; rose = risen })
@@ -116,7 +130,7 @@ unfailed Step h status before after (inr (inr (why, inr (cell, named, failed), r
 pub keeps-book : {D : Type 0} (drive : D → Drive) (file : List ℕ) (Step : List Entry → Lost → Type 0) (old : Drive) (w size : ℕ) (b : BookView D) (h : List Entry) (disk : D) (status : ℕ) (before after : Output) (opens : OpensBook drive file old w size b)
     → LeavesLog drive w b.opening h b.log (Some disk) → EndsRows (StopsBook Step h) status before after → (WritesLines status → failed_cell h ≡ None) → KeepsPlayed opens.from old (drive disk) status h
 keeps-book {D = D} drive file Step old w size b h disk status before after opens leaves ends going =
-    let kept = kept-since drive w b.opening h opens.log disk b.log opens.log_is opens.once leaves in
+    let kept = kept-since drive w b.opening h opens.log disk b.log opens.log_is opens.plain leaves in
     subst (λ (d : D). KeepsPlayed opens.from old (drive d) status h) kept.disk_is
     (keeps-opened drive old kept.now opens.from b.opening h status (stays-trans old (drive opens.log.start) (drive kept.now.start) opens.stays kept.like.stays) (subst (λ (v : ℕ). KeepsLog drive v b.opening h kept.now) (sym opens.width) kept.keeps) (unfailed Step h status before after ends going) opens.found opens.state)
 
@@ -124,27 +138,27 @@ keeps-book {D = D} drive file Step old w size b h disk status before after opens
 text-book : {D : Type 0} (drive : D → Drive) (file : List ℕ) (Step : List Entry → Lost → Type 0) (old : Drive) (w size : ℕ) (b : BookView D) (h : List Entry) (disk : D) (status : ℕ) (before after : Output) (opens : OpensBook drive file old w size b)
     → LeavesLog drive w b.opening h b.log (Some disk) → EndsRows (StopsBook Step h) status before after → (WritesLines status → failed_cell h ≡ None) → KeepsText opens.from old (drive disk) status h × StopsAtFault old (drive disk)
 text-book {D = D} drive file Step old w size b h disk status before after opens leaves ends going =
-    let kept = kept-since drive w b.opening h opens.log disk b.log opens.log_is opens.once leaves in
+    let kept = kept-since drive w b.opening h opens.log disk b.log opens.log_is opens.plain leaves in
     let stays = stays-trans old (drive opens.log.start) (drive kept.now.start) opens.stays kept.like.stays in
     let keeps = subst (λ (v : ℕ). KeepsLog drive v b.opening h kept.now) (sym opens.width) kept.keeps in
     let calm = unfailed Step h status before after ends going in
     subst (λ (d : D). KeepsText opens.from old (drive d) status h × StopsAtFault old (drive d)) kept.disk_is (
       text-opened drive old kept.now opens.from b.opening h status stays keeps calm opens.found opens.state,
-      calls-opened drive old kept.now opens.from b.opening h status stays keeps calm opens.found opens.state,
+      calls-opened drive old kept.now opens.from b.opening h status stays keeps calm opens.found opens.state kept.still,
     )
 
 -- where no append failed no device call did
 calm-book : {D : Type 0} (drive : D → Drive) (file : List ℕ) (old : Drive) (w size : ℕ) (b : BookView D) (h : List Entry) (disk : D) → OpensBook drive file old w size b → LeavesLog drive w b.opening h b.log (Some disk)
     → failed_cell h ≡ None → (drive disk).faults ≡ old.faults
 calm-book {D = D} drive file old w size b h disk opens leaves none =
-    let kept = kept-since drive w b.opening h opens.log disk b.log opens.log_is opens.once leaves in
+    let kept = kept-since drive w b.opening h opens.log disk b.log opens.log_is opens.plain leaves in
     subst (λ (d : D). (drive d).faults ≡ old.faults) kept.disk_is (kept.keeps.calm none ∙ kept.like.calm ∙ opens.calm)
 
 -- its bytes are still known where they were
 told-book : {D : Type 0} (drive : D → Drive) (file : List ℕ) (old : Drive) (w size : ℕ) (b : BookView D) (h : List Entry) (disk : D) → OpensBook drive file old w size b → LeavesLog drive w b.opening h b.log (Some disk)
     → is_some (drive disk).bytes ≡ is_some old.bytes
 told-book {D = D} drive file old w size b h disk opens leaves =
-    let kept = kept-since drive w b.opening h opens.log disk b.log opens.log_is opens.once leaves in
+    let kept = kept-since drive w b.opening h opens.log disk b.log opens.log_is opens.plain leaves in
     subst (λ (d : D). is_some (drive d).bytes ≡ is_some old.bytes) kept.disk_is
     (kept.keeps.told ∙ ap is_some (kept.like.stays.bytes ∙ opens.stays.bytes))
 
@@ -152,7 +166,7 @@ told-book {D = D} drive file old w size b h disk opens leaves =
 attached-book : {D : Type 0} (drive : D → Drive) (file : List ℕ) (old : Drive) (w size : ℕ) (b : BookView D) (h : List Entry) (disk : D) → OpensBook drive file old w size b → LeavesLog drive w b.opening h b.log (Some disk)
     → AttachedOne file false old (drive disk)
 attached-book {D = D} drive file old w size b h disk opens leaves =
-    let kept = kept-since drive w b.opening h opens.log disk b.log opens.log_is opens.once leaves in
+    let kept = kept-since drive w b.opening h opens.log disk b.log opens.log_is opens.plain leaves in
     subst (λ (d : D). AttachedOne file false old (drive d)) kept.disk_is
     (attached-still file false old (drive opens.log.start) (drive kept.now.disk) opens.attached (λ all told. kept.like.file all (kept.keeps.file all told)))
 

@@ -1,7 +1,8 @@
 -- Rows that lanes played, over a store that was closed.
 use Rattle.std.proofs.lemmas.Bool.Decides.{nat_tests}
-use Rattle.std.proofs.Common.{◌≡◌, ◌⊎◌, inl, inr, ℕ, ◌<◌, ◌≤◌, Bool, true, cond, List, [], ◌∷◌, length, Option, Some, None, refl, sym, ap, subst, ◌∙◌, arith}
+use Rattle.std.proofs.Common.{◌≡◌, ◌⊎◌, inl, inr, ℕ, ◌<◌, ◌≤◌, Bool, true, false, cond, List, [], ◌∷◌, length, Option, Some, None, refl, sym, ap, subst, ◌∙◌, arith}
 use Rattle.std.specs.Prelude.{IfSome, nat_lt}
+use Rattle.std.specs.Option.{option_map, option_map_or}
 use Rattle.plain_list.specs.declared.entries.Entry.{Entry}
 use Rattle.plain_list.specs.State.{State, IsLegal}
 use Rattle.csv_rows.specs.declared.rows.InRow.{InRow}
@@ -10,10 +11,13 @@ use Rattle.disk_trait.specs.Drive.{Drive}
 use Rattle.book_lock.specs.Pass.{Known}
 use Rattle.book_lock.specs.Own.{times, once_below}
 use Rattle.book_lock.specs.declared.origin.Origin.{Origin}
+use Rattle.book_lock.specs.declared.origin.LogStart.{LogStart}
 use Rattle.commit_book.specs.BookView.{BookView}
 use Rattle.commit_book.specs.IsBook.{IsBook}
+use Rattle.kept_log.specs.KeptView.{KeptView}
+use Rattle.kept_log.specs.Journal.{moves_in}
 use Rattle.kept_log.specs.Counts.{first_in}
-use Rattle.sessions.specs.Shared.{start_of, origin_of, first_cells}
+use Rattle.sessions.specs.Shared.{start_in, start_of, origin_of, first_cells, moves_of}
 use Rattle.sessions.specs.Steps.{cells_at}
 use Rattle.sessions.proofs.Origins.{first-in}
 use Rattle.sessions.proofs.StepLemmas.{cells-at}
@@ -58,7 +62,7 @@ module _ {I D O P : Type 0} (w : ℕ) (origin : Origin) (rows : List InRow) (end
   are-played done (inl ran) legal start = record {
     played = played w origin rows (sessions_to 16 rows) ran.lanes last (out done ran);
     loses = λ cell failed. loses w origin rows (sessions_to 16 rows) ran.lanes last (out done ran) cell legal failed;
-    limits = within_limits w origin rows (sessions_to 16 rows) ran.lanes last (out done ran) legal are.most start;
+    limits = within_limits w origin rows (sessions_to 16 rows) ran.lanes last (out done ran) start legal are.most;
   }
   are-played done (inr none) legal start = played-none w origin rows last.seen start (unseen last.seen last.own own none.own)
 
@@ -75,6 +79,11 @@ module _ {I D O P : Type 0} (w : ℕ) (origin : Origin) (rows : List InRow) (end
         settled = λ going. settled w origin rows sessions ran.lanes last ran.is_done.1.0 all ran.is_done.1.1 ran.is_done.1.2 legal are.most start going;
       }
 
+-- whether a fresh log may replace the log of a book is the same of its origin
+moves-start : {D : Type 0} (drive : D → Drive) (log : Option (KeptView D)) → option_map_or (λ (start : LogStart). start.moves) (option_map (start_in drive) log) false ≡ moves_in log
+moves-start drive None = refl
+moves-start drive (Some log) = refl
+
 -- a book of an origin begins as that says
 opening-is : {D : Type 0} (drive : D → Drive) (w : ℕ) (b : BookView D) → IsBook drive w b → start_of (origin_of drive b) ≡ b.opening
 opening-is drive w b book = same
@@ -83,22 +92,26 @@ opening-is drive w b book = same
     same i = record { world = b.opening.world; leaves = b.opening.leaves; splits = (sym book.opening.rests) i; begun = b.opening.begun }
 
 module _ {D : Type 0} (drive : D → Drive) (w : ℕ) (rows : List InRow) (old new : BookView D) (before : IsBook drive w old) (after : IsBook drive w new) (begins : IsNewBook old) where
+  -- no fresh log may replace the log
+  still-first : moves_of (origin_of drive old) ≡ false
+  still-first = moves-start drive old.log ∙ begins.still
+
   -- the log has few cells at first
   few-first : cells_at (origin_of drive old) [] ≤ 16000000
-  few-first = subst (λ (h : List Entry). cells_at (origin_of drive old) h ≤ 16000000) begins.entries (subst (λ (n : ℕ). n ≤ 16000000) (cells-at drive w old before) begins.few)
+  few-first = subst (λ (h : List Entry). cells_at (origin_of drive old) h ≤ 16000000) begins.entries (subst (λ (n : ℕ). n ≤ 16000000) (cells-at drive w old before still-first) begins.few)
 
   play-first : IsPlayStart (origin_of drive old)
-  play-first = record { kept = begins.kept; few = few-first }
+  play-first = record { kept = begins.kept; few = few-first; still = still-first }
 
   pub played-book : origin_of drive new ≡ origin_of drive old → ArePlayed w (origin_of drive old) rows new.entries → IsPlayedBook w rows old new
   played-book same are = record {
     opening = sym (opening-is drive w new after) ∙ ap start_of same ∙ opening-is drive w old before;
-    first = sym (first-in drive new) ∙ ap first_cells same ∙ first-in drive old;
+    first = sym (first-in drive w new after (ap moves_of same ∙ still-first)) ∙ ap first_cells same ∙ first-in drive w old before still-first;
     played = are.played;
     loses = λ cell failed. subst (λ (s : State). LosesStep (IsNextStep w s rows) new.entries cell) (opening-is drive w old before) (are.loses cell failed);
     limits =
         subst (λ (s : State). IsWithinLimits w old.bucket s (first_in old.log) rows new.entries) (opening-is drive w old before)
-        (subst (λ (first : Option ℕ). IsWithinLimits w old.bucket (start_of (origin_of drive old)) first rows new.entries) (first-in drive old) are.limits);
+        (subst (λ (first : Option ℕ). IsWithinLimits w old.bucket (start_of (origin_of drive old)) first rows new.entries) (first-in drive w old before still-first) are.limits);
     kept = ap (λ (o : Origin). o.kept) same ∙ begins.kept;
   }
 
@@ -108,7 +121,7 @@ module _ {D : Type 0} (drive : D → Drive) (w : ℕ) (rows : List InRow) (old n
     answers = are.answers;
     settled = λ going.
         subst (λ (s : State). SplitsAreDone w old.bucket s (first_in old.log) new.entries) (opening-is drive w old before)
-        (subst (λ (first : Option ℕ). SplitsAreDone w old.bucket (start_of (origin_of drive old)) first new.entries) (first-in drive old) (are.settled going));
+        (subst (λ (first : Option ℕ). SplitsAreDone w old.bucket (start_of (origin_of drive old)) first new.entries) (first-in drive w old before still-first) (are.settled going));
   }
 
   -- the same book, where no row was played

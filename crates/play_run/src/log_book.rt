@@ -59,6 +59,8 @@ pub(crate) fn book_of<I: Index, D: LogDisk>(
       first = opened.log.cells;
       waiting = [];
       at_sync = false;
+      moves = false;
+      earlier = None;
     })) }
     ensures new { IfOk result (λ b. IsNewBook b) }
     ensures back { IfErr result (λ e. (e.disk ≡ opened.log.disk) × (e.why ≡ Refusal.Memory)) }

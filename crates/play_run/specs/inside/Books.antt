@@ -13,7 +13,7 @@ use Rattle.recovery.specs.Opening.{KeepsCells}
 use Rattle.zorder.specs.Width.{IsWidth}
 use Rattle.kept_log.specs.Kept.{IsOpened, found_state}
 use Rattle.kept_log.specs.KeptView.{KeptView}
-use Rattle.kept_log.specs.Journal.{cells_in, disk_in, KeepsIn}
+use Rattle.kept_log.specs.Journal.{cells_in, disk_in, moves_in, KeepsIn}
 use Rattle.commit_book.specs.BookView.{BookView}
 use Rattle.kept_log.specs.Counts.{first_in}
 use Rattle.sessions.specs.Shared.{StartsAs}
@@ -29,12 +29,14 @@ use Rattle.play_run.specs.Origin.{Origin, IsFoundOrigin}
 abbrev pub StopsBook : (List Entry → Lost → Type 0) → List Entry → Refusal → Type 0
 StopsBook Step h why = ((why ≡ refusal.Memory) × (failed_cell h ≡ None)) ⊎ ((cell : ℕ) × (why ≡ refusal.Disk (Some cell)) × LosesStep Step h cell)
 
--- a book of a world, without entries, that has room for rows and keeps the list of its entries
+-- a book of a world, without entries, that has room for rows and keeps the list of its entries; no fresh log may replace
+-- its log
 pub record IsNewBook {D : Type 0} (b : BookView D) : Type 0 where
   pub entries : b.entries ≡ []
   pub few : cells_in b.log ≤ most_played
   pub world : IsWorld b.opening.world
   pub kept : b.kept ≡ true
+  pub still : moves_in b.log ≡ false
 
 -- the bytes, images, clock, fault count and file are those of the drive on which a log was opened
 pub record IsLike (old new : Drive) : Type 0 where
@@ -47,12 +49,12 @@ abbrev pub is_unlogged : {D : Type 0} → Option (KeptView D) → Type 0
 is_unlogged None = ⊤
 is_unlogged (Some log) = ⊥
 
-abbrev pub is_opened : {D : Type 0} → (D → Drive) → Option (KeptView D) → Drive → Bool → Type 0
-is_opened drive None start waits = ⊥
-is_opened drive (Some log) start waits = IsLike (drive log.start) start × (waits ≡ log.at_sync)
+abbrev pub is_opened : {D : Type 0} → (D → Drive) → Option (KeptView D) → Drive → Bool → Bool → Type 0
+is_opened drive None start waits moves = ⊥
+is_opened drive (Some log) start waits moves = IsLike (drive log.start) start × (waits ≡ log.at_sync) × (moves ≡ log.moves)
 
 -- neither book has a log, or the log of the new one was opened on a drive like that of the old one and is written in the
--- same way
+-- same way, and a fresh log may replace both or neither
 abbrev pub BeginsAs : {D : Type 0} → (D → Drive) → Option (KeptView D) → Option (KeptView D) → Type 0
 BeginsAs drive old new = StartsAs drive (is_unlogged old) (is_opened drive old) new
 
@@ -75,12 +77,18 @@ pub record OpensFile (file : List ℕ) (old start now : Drive) (w : ℕ) (seen :
   pub keeps : KeepsCells w old now
   pub shows : (bytes : List ℕ) (fault : OpenFault) → old.bytes ≡ Some bytes → IsInBytes fault → IsFault oldest_played None most_played bytes fault → ⊥
 
--- a book of this width on the log that stood on a drive, whose bytes have no fault; each record is written at once
+-- each record of the log is written at once, no fresh log may replace it, and it has replaced none
+pub record IsPlain {D : Type 0} (log : KeptView D) : Type 0 where
+  pub once : log.at_sync ≡ false
+  pub still : log.moves ≡ false
+  pub whole : log.earlier ≡ None
+
+-- a book of this width on the log that stood on a drive, whose bytes have no fault
 pub record OpensBook {D : Type 0} (drive : D → Drive) (file : List ℕ) (old : Drive) (w size : ℕ) (b : BookView D) : Type 0 where
   pub bucket : b.bucket ≡ size
   pub log : KeptView D
   pub log_is : b.log ≡ Some log
-  pub once : log.at_sync ≡ false
+  pub plain : IsPlain log
   pub from : Origin
   pub found : IsFoundOrigin old from
   pub width : from.width ≡ w

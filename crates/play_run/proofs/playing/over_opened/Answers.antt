@@ -40,7 +40,7 @@ returns-in-Ok g c =
       plays = λ file disk opens.
           rw c.with_drive.ensures.other
           (inr (answered-over drive report file w c.args.size rows book disk end.drives.disk c.args.other before after end.status end.history
-          (opens-book drive file (drive disk) w c.args.size book _ opened.seen opened.start.value (drive opened.log.disk) opens refl refl refl c.requires.log.0 c.in-Ok.ensures.opening.0 c.in-Ok.ensures.opening.1 c.in-Ok.ensures.log)
+          (opens-book drive file (drive disk) w c.args.size book _ opened.seen opened.start.value (drive opened.log.disk) opens (record { once = refl; still = refl; whole = refl }) refl refl c.requires.log.0 c.in-Ok.ensures.opening.0 c.in-Ok.ensures.opening.1 c.in-Ok.ensures.log)
           (subst (λ p. EndsBook drive w report rows book p.history p.status p.disk before after) c.with_drive.ensures.told c.play_and_tell-told.ensures)));
       other = c.with_drive.ensures.other;
     }
