@@ -1,8 +1,10 @@
 pub mod Asks
 pub mod Batched
+pub mod Changed
 pub mod Crossing
 pub mod Reports
 pub mod Later
 pub mod Splitting
 pub mod Objects
 pub mod Hands
+pub mod Near

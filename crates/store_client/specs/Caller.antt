@@ -9,6 +9,7 @@ use Rattle.plain_list.specs.World.{World}
 use Rattle.plain_list.specs.declared.object_changes.Change.{Change}
 use Rattle.commit_book.specs.Room.{has_no_room}
 use Rattle.sessions.specs.Rooms.{cells_where_at}
+use Rattle.sessions.specs.Shared.{moves_of}
 
 -- The pass belongs to this lock, and doesn't hold it.
 abbrev pub IsFree : TableId → Known → Type 0
@@ -27,9 +28,16 @@ abbrev pub is_near : Bool → Option ℕ → ℕ → Bool
 is_near kept None events = has_no_room kept 0 events
 is_near kept (Some cells) events = has_no_room kept cells events
 
--- Whether there are too many after the history that a pass has seen.
+-- Whether there are too many after the history that a pass has seen, if no fresh log has replaced the log.
 abbrev pub is_near_end : Known → Bool
 is_near_end pass = is_near pass.origin.kept (cells_where_at pass.origin pass.seen) (length pass.seen)
+
+-- Whether there are too many next to so many cells, if there is a log. If no fresh log may replace it, the history
+-- determines the number (`near-exact`, proofs/Near).
+pub record IsNearEnd (pass : Known) (near : Bool) : Type 0 where
+  pub cells : Option ℕ
+  pub counted : moves_of pass.origin ≡ false → cells ≡ cells_where_at pass.origin pass.seen
+  pub near_is : near ≡ is_near pass.origin.kept cells (length pass.seen)
 
 -- A client: its pass, its session, the number of its next row, and the place of its last call that was answered, or 0, with
 -- what that call has changed.

@@ -19,7 +19,7 @@ use std::sync::Wait;
 #[derive(Drop)]
 pub struct Replies {
     /// The number of the batch's last call among the calls of the history, from 1. The numbers of its calls follow one
-    /// another, so the first one has `place + 1 - answers.len()`.
+    /// another, so the first one has `place + 1 - answers.len()`. `changes` returns what each call has changed.
     pub place: u64,
     /// The answer to each operation, in the batch's order.
     pub answers: Vec<Answer>,

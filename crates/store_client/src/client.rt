@@ -4,11 +4,11 @@ ghost use Rattle.plain_list.specs.Answer.{IsValid};
 ghost use Rattle.plain_list.specs.History.{failed_cell};
 ghost use Rattle.plain_list.specs.World.{IsWorld};
 ghost use Rattle.sessions.specs.Lanes.{Tries};
-ghost use Rattle.sessions.specs.Rooms.{room_at};
+ghost use Rattle.sessions.specs.Rooms.{IsRoom};
 ghost use Rattle.sessions.specs.Runs.{HasLooked};
 ghost use Rattle.sessions.specs.Splits.{SamePass};
 ghost use Rattle.sessions.specs.Views.{IsView, IsWorldAt};
-ghost use Rattle.store_client.specs.Caller.{IsFree, Keeps, is_near_end, world_seen};
+ghost use Rattle.store_client.specs.Caller.{IsFree, Keeps, IsNearEnd, world_seen};
 ghost use Rattle.store_client.specs.Asked.{Asked, AskedCounted};
 
 use crate::limits::has_no_room;
@@ -130,7 +130,7 @@ impl<'s, I: Index, D: LogDisk, O: Start> Client<'s, I, D, O> {
 
     /// What the last call that was answered has changed, with its place: `None` if it was a query, or if its answer says that
     /// nothing changed. After a report it is what its move or its put has changed. After a batch it is `None`:
-    /// `Change::of` has the change of each operation.
+    /// `Replies::changes` returns what the batch has changed.
     pub fn last_change(&self) -> Option<Change>
         ensures { result ≡ self.now.change }
     {
@@ -150,7 +150,7 @@ impl<'s, I: Index, D: LogDisk, O: Start> Client<'s, I, D, O> {
     /// a place after all that the client has seen.
     pub fn room<R: Wait>(&mut self, rt: &R) -> Room
         ensures looked { HasLooked self.old.pass self.new.pass }
-        ensures room { result ≡ room_at self.new.pass.origin self.new.pass.seen }
+        ensures room { IsRoom self.new.pass.origin self.new.pass.seen result }
         ensures client { self.new ≡ record self.old { pass = self.new.pass } }
     {
         let store = self.store;
@@ -173,7 +173,7 @@ impl<'s, I: Index, D: LogDisk, O: Start> Client<'s, I, D, O> {
     /// the client has seen.
     pub fn is_near_end<R: Wait>(&mut self, rt: &R) -> bool
         ensures looked { HasLooked self.old.pass self.new.pass }
-        ensures near { result ≡ is_near_end self.new.pass }
+        ensures near { IsNearEnd self.new.pass result }
         ensures client { self.new ≡ record self.old { pass = self.new.pass } }
     {
         let room = self.room(rt);

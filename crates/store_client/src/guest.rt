@@ -4,13 +4,13 @@ ghost use Rattle.zorder.specs.Region.{IsBox};
 ghost use Rattle.plain_list.specs.Answer.{IsValid};
 ghost use Rattle.plain_list.specs.History.{failed_cell};
 ghost use Rattle.plain_list.specs.World.{IsWorld};
-ghost use Rattle.sessions.specs.Rooms.{room_at};
+ghost use Rattle.sessions.specs.Rooms.{IsRoom};
 ghost use Rattle.sessions.specs.Runs.{HasLooked};
 ghost use Rattle.sessions.specs.Syncs.{SyncsPass, WasDurable};
 ghost use Rattle.sessions.specs.Views.{IsView, IsWorldAt};
 ghost use Rattle.store_client.specs.Asked.{Asked};
 ghost use Rattle.store_client.specs.Batches.{Applies};
-ghost use Rattle.store_client.specs.Caller.{is_near_end, world_seen};
+ghost use Rattle.store_client.specs.Caller.{IsNearEnd, world_seen};
 ghost use Rattle.store_client.specs.Verbs.{put_answer, move_answer, gone_answer, at_answer, listed_answer, nearest_answer, AskedAs, Reports};
 
 use crate::answers::{Listed, MoveReply, PutReply, Report};
@@ -166,7 +166,7 @@ impl<'p, 's, I: Index, D: LogDisk, O: Start, L: Lender> Guest<'p, 's, I, D, O, L
     /// As `Client::room`.
     pub fn room<R: Wait>(&mut self, rt: &R) -> Room
         ensures looked { HasLooked self.old.pass self.new.pass }
-        ensures room { result ≡ room_at self.new.pass.origin self.new.pass.seen }
+        ensures room { IsRoom self.new.pass.origin self.new.pass.seen result }
         ensures client { self.new ≡ record self.old { pass = self.new.pass } }
     {
         self.desk.client.room(rt)
@@ -184,7 +184,7 @@ impl<'p, 's, I: Index, D: LogDisk, O: Start, L: Lender> Guest<'p, 's, I, D, O, L
     /// As `Client::is_near_end`.
     pub fn is_near_end<R: Wait>(&mut self, rt: &R) -> bool
         ensures looked { HasLooked self.old.pass self.new.pass }
-        ensures near { result ≡ is_near_end self.new.pass }
+        ensures near { IsNearEnd self.new.pass result }
         ensures client { self.new ≡ record self.old { pass = self.new.pass } }
     {
         self.desk.client.is_near_end(rt)

@@ -11,6 +11,7 @@
 //! | `apply` | all operations of a `Batch` as one step (`Applies`) |
 //! | `world`, `world_at`, `view` | a copy of all objects, also with its place, or a view without a copy |
 //! | `place`, `last_change` | the place of the last call that was answered, and what it has changed |
+//! | `Replies::changes` | what a batch has changed |
 //! | `closed` | the record whose append failed, if one did |
 //! | `another`, `join`, `learn` | share the store with other callers |
 //! | `work_all` | lets a team work at once, each in its own thread (`TeamDid`) |
