@@ -93,7 +93,7 @@ module _ {D E : Type 0} (drive : D → Drive) (other : E → Drive) (w bucket si
   -- The file is the text of the cells that the opening found and of the history's. A crash leaves that text.
   pub text-closed : IsLog w (opened.cells ++ cells_of pass.origin.world last.seen) (drive disk)
   text-closed =
-      let start : LogStart = record { cells = length opened.cells; bytes = (drive opened.start).bytes; clock = (drive opened.start).clock; faults = (drive opened.start).faults; at_sync = false } in
+      let start : LogStart = record { cells = length opened.cells; bytes = (drive opened.start).bytes; clock = (drive opened.start).clock; faults = (drive opened.start).faults; at_sync = false; moves = false } in
       let began : Some start ≡ last.origin.log = sym (ap (λ (k : Known). k.origin.log) opened.pass_is) ∙ sym (ap (λ (o : Origin). o.log) one) in
       let same = ap (λ (l : LogStart). l.bytes) (same_Some _ _ (began ∙ closed.began)) in
       let known = some_of (drive opened.start).bytes (opened.readies.told ∙ told) in

@@ -1,5 +1,5 @@
 -- A store whose records waited, and which ended to continue over a second file.
-use Rattle.std.proofs.Common.{◌≡◌, ◌∙◌, ℕ, length, Option, Some, None, Ok, refl, sym, subst}
+use Rattle.std.proofs.Common.{◌≡◌, ◌∙◌, false, ℕ, length, Option, Some, None, Ok, refl, sym, subst}
 use Rattle.atomic_table.specs.Seated.{TableId}
 use Rattle.disk_trait.specs.Drive.{Drive}
 use Rattle.plain_list.specs.World.{IsWorld}
@@ -15,7 +15,7 @@ use Rattle.commit_book.specs.IsBook.{AreBooks, IsBook}
 use Rattle.commit_book.specs.Refusals.{IsMemoryOrDisk, IsRefusedBy, call_refusal}
 use Rattle.commit_book.specs.Rotation.{HasContent, rotated}
 use Rattle.commit_book.specs.Syncs.{Syncs}
-use Rattle.sessions.specs.Shared.{HasWorld, origin_of}
+use Rattle.sessions.specs.Shared.{HasWorld, moves_of, origin_of}
 use Rattle.sessions.proofs.Origins.{same-origin}
 use Rattle.store_file.specs.declared.rotating.BeginCause.{BeginCause}
 use Rattle.store_file.specs.declared.rotating.BeginCause.TheVariants as none_begun
@@ -32,16 +32,16 @@ use Rattle.store_file.proofs.WaitingFacts.{done, synced-counted}
 
 -- The book of a store that was closed, and synced then.
 module _ {D : Type 0} (drive : D → Drive) (w : ℕ) (pass : Known) (old new : BookView D) (books : AreBooks drive w old new) (value : (old.entries ≡ pass.seen) × (origin_of drive old ≡ pass.origin))
-    (own : (p : ℕ) → times p pass.own ≡ once_below p (length pass.seen)) (has : HasWorld old) (place : ℕ) (synced : Syncs old new place) (refused : IsRefusedBy IsMemoryOrDisk (call_refusal old.kept old.entries) (Ok place)) where
+    (own : (p : ℕ) → times p pass.own ≡ once_below p (length pass.seen)) (fixed : moves_of pass.origin ≡ false) (has : HasWorld old) (place : ℕ) (synced : Syncs old new place) (refused : IsRefusedBy IsMemoryOrDisk (call_refusal old.kept old.entries) (Ok place)) where
   pub good-seen : failed_cell pass.seen ≡ None
-  good-seen = done drive w pass old new books value own place refused
+  good-seen = done drive w pass old new books value own fixed place refused
 
   pub synced-ended : IsEnded drive w pass new
   synced-ended = record {
     book = books.after;
     value = (synced.entries ∙ value.0, same-origin drive old new books.origin ∙ value.1);
     has = record { world = subst IsWorld (sym (λ i. world_after (books.origin.opening i).world (synced.entries i))) has.world };
-    ends = λ last last_is. synced-counted drive w pass old new books value own last last_is place synced good-seen;
+    ends = λ last last_is. synced-counted drive w pass old new books value own fixed last last_is place synced good-seen;
   }
 
 -- What happens after a fresh log was begun with the content of this book.

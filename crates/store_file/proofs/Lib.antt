@@ -9,3 +9,4 @@ mod EndedFacts
 pub mod Again
 pub mod Between
 pub mod Fewest
+pub mod RefusedFacts

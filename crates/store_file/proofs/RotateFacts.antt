@@ -107,19 +107,19 @@ module _ {D : Type 0} where
   count-in (Some log) view is = ap (λ (v : LogView D). v.cells) (sym (same_Some _ _ is))
 
 -- A book over another log writes each record at once if that log does.
-pub starts-over : {D : Type 0} (drive : D → Drive) (new b : BookView D) → new ≡ b → StartsAs drive ⊥ (λ start waits. waits ≡ false) b.log → StartsAs drive ⊥ (λ start waits. waits ≡ false) new.log
-starts-over {D = D} drive new b is starts = subst (λ (v : BookView D). StartsAs drive ⊥ (λ start waits. waits ≡ false) v.log) (sym is) starts
+pub starts-over : {D : Type 0} (drive : D → Drive) (new b : BookView D) → new ≡ b → StartsAs drive ⊥ (λ start waits moves. (waits ≡ false) × (moves ≡ false)) b.log → StartsAs drive ⊥ (λ start waits moves. (waits ≡ false) × (moves ≡ false)) new.log
+starts-over {D = D} drive new b is starts = subst (λ (v : BookView D). StartsAs drive ⊥ (λ start waits moves. (waits ≡ false) × (moves ≡ false)) v.log) (sym is) starts
 
 -- A book continues over another log.
 module _ {D : Type 0} (drive : D → Drive) (b new : BookView D) (seen : Seen) (log : LogView D) (start : D) (is : new ≡ rotated seen log start b) (counts : log.cells ≡ seen.cells) where
   pub new-origin : origin_of drive new ≡ found_origin b.kept b.bucket seen (drive start)
-  new-origin = ap (origin_of drive) is ∙ stores.found-origin drive b.kept b.bucket seen (rotated seen log start b) (first_log log start) refl refl refl refl counts refl
+  new-origin = ap (origin_of drive) is ∙ stores.found-origin drive b.kept b.bucket seen (rotated seen log start b) (first_log log start) refl refl refl refl counts refl refl
 
   pub new-none : new.entries ≡ []
   new-none = ap (λ (v : BookView D). v.entries) is
 
-  pub new-starts : StartsAs drive ⊥ (λ start waits. waits ≡ false) new.log
-  new-starts = starts-over drive new (rotated seen log start b) is refl
+  pub new-starts : StartsAs drive ⊥ (λ start waits moves. (waits ≡ false) × (moves ≡ false)) new.log
+  new-starts = starts-over drive new (rotated seen log start b) is (refl, refl)
 
   pub new-opening : seen.world ≡ world_after b.opening.world b.entries → HasWorld b → IsWorld new.opening.world
   new-opening world has = subst IsWorld (sym (ap (λ (v : BookView D). v.opening.world) is ∙ world)) has.world
@@ -191,7 +191,7 @@ is-ended drive w b old pass same is =
       value = is.value;
       has = is.has;
       ends = λ last last_is. stores.any-counted drive w _ pass last (written_in b.log)
-          (stores.closes-counted drive w ⊥ (λ start waits. waits ≡ false) b pass last is.book is.value is.own (λ none. none) (λ start waits is. is) is.starts last_is);
+          (stores.closes-counted drive w ⊥ (λ start waits moves. (waits ≡ false) × (moves ≡ false)) b pass last is.book is.value is.own (λ none. none) (λ start waits moves is. is) is.starts last_is);
     })
 
 -- A fresh log of a store was begun, and the store was closed.
@@ -257,7 +257,7 @@ module _ {D : Type 0} (drive : D → Drive) (w : ℕ) (b : BookView D) (old : Kn
               world = finds.world i;
               leaves = finds.leaves i;
               begun = finds.begun i;
-              log = Some (record { cells = finds.count i; bytes = (drive start).bytes; clock = (drive start).clock; faults = (drive start).faults; at_sync = false });
+              log = Some (record { cells = finds.count i; bytes = (drive start).bytes; clock = (drive start).clock; faults = (drive start).faults; at_sync = false; moves = false });
               bucket = bucket-as i;
               kept = kept-as i;
             });

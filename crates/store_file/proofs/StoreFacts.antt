@@ -20,6 +20,7 @@ use Rattle.kept_log.specs.KeptView.{KeptView}
 use Rattle.kept_log.specs.Kept.{found_state}
 use Rattle.kept_log.specs.Journal.{KeepsIn, KeepsLog, written_in, disk_in}
 use Rattle.kept_log.proofs.Waiting.{keeps-at-once}
+use Rattle.kept_log.proofs.Moving.{unmoved-keeps}
 use Rattle.kept_log.proofs.Starting.{opened-found}
 use Rattle.book_lock.specs.Own.{times, once_below}
 use Rattle.book_lock.specs.Pass.{Known}
@@ -43,19 +44,19 @@ module _ {D : Type 0} where
   has-drive None is = absurd (true≢false (sym is))
   has-drive (Some log) is = refl
 
-  pub has-log : (drive : D → Drive) (unlogged : Type 0) (Is : Drive → Bool → Type 0) (log : Option (KeptView D)) → (unlogged → ⊥) → StartsAs drive unlogged Is log → is_some log ≡ true
+  pub has-log : (drive : D → Drive) (unlogged : Type 0) (Is : Drive → Bool → Bool → Type 0) (log : Option (KeptView D)) → (unlogged → ⊥) → StartsAs drive unlogged Is log → is_some log ≡ true
   has-log drive unlogged Is None logged starts = absurd (logged starts)
   has-log drive unlogged Is (Some log) logged starts = refl
 
 -- What a closed book leaves.
-module _ {D : Type 0} (drive : D → Drive) (w : ℕ) (unlogged : Type 0) (Is : Drive → Bool → Type 0) (b : BookView D) (pass : Known) (disk : D) (is_book : IsBook drive w b)
-    (value : (b.entries ≡ pass.seen) × (origin_of drive b ≡ pass.origin)) (own : (p : ℕ) → times p pass.own ≡ once_below p (length pass.seen)) (logged : unlogged → ⊥) (once : (start : D) (waits : Bool) → Is (drive start) waits → waits ≡ false) (starts : StartsAs drive unlogged Is b.log)
+module _ {D : Type 0} (drive : D → Drive) (w : ℕ) (unlogged : Type 0) (Is : Drive → Bool → Bool → Type 0) (b : BookView D) (pass : Known) (disk : D) (is_book : IsBook drive w b)
+    (value : (b.entries ≡ pass.seen) × (origin_of drive b ≡ pass.origin)) (own : (p : ℕ) → times p pass.own ≡ once_below p (length pass.seen)) (logged : unlogged → ⊥) (once : (start : D) (waits moves : Bool) → Is (drive start) waits moves → (waits ≡ false) × (moves ≡ false)) (starts : StartsAs drive unlogged Is b.log)
     (disk_is : disk_in b.log ≡ Some disk) where
   began-at : b.opening ≡ start_of pass.origin
   began-at = (λ i. record { world = b.opening.world; leaves = b.opening.leaves; splits = is_book.opening.rests i; begun = b.opening.begun }) ∙ ap start_of value.1
 
   -- The log has the same number of cells.
-  cells-by-log : (log : Option (KeptView D)) → b.log ≡ log → (closed : ClosesStore drive w (λ start. Is start false) pass disk) × (closed.log.cells ≡ written_in log)
+  cells-by-log : (log : Option (KeptView D)) → b.log ≡ log → (closed : ClosesStore drive w (λ start. Is start false false) pass disk) × (closed.log.cells ≡ written_in log)
   cells-by-log None is = absurd (logged (subst (StartsAs drive unlogged Is) is starts))
   cells-by-log (Some log) is = (
     record {
@@ -64,21 +65,23 @@ module _ {D : Type 0} (drive : D → Drive) (w : ℕ) (unlogged : Type 0) (Is : 
       log = log;
       disk_is = same_Some log.disk disk (sym (ap disk_in is) ∙ disk_is);
       began = sym (ap (λ (o : Origin). o.log) value.1) ∙ ap (λ (l : Option (KeptView D)). option_map (start_in drive) l) is;
-      starts = subst (λ (waits : Bool). Is (drive log.start) waits) at-once (subst (StartsAs drive unlogged Is) is starts);
+      still = held.1;
+      starts = subst (λ (moves : Bool). Is (drive log.start) false moves) held.1 (subst (λ (waits : Bool). Is (drive log.start) waits log.moves) held.0 (subst (StartsAs drive unlogged Is) is starts));
       keeps = subst (λ (s : State). KeepsLog drive w s pass.seen log) began-at
           (subst (λ (h : List Entry). KeepsLog drive w b.opening h log) value.0
-          (keeps-at-once drive w b.opening b.entries log (subst (λ (l : Option (KeptView D)). KeepsIn drive w b.opening b.entries l) is is_book.on_log) at-once));
+          (keeps-at-once drive w b.opening b.entries log
+          (unmoved-keeps drive w b.opening b.entries log held.1 (subst (λ (l : Option (KeptView D)). KeepsIn drive w b.opening b.entries l) is is_book.on_log)) held.0));
     },
     refl,
   )
     where
-      at-once : log.at_sync ≡ false
-      at-once = once log.start log.at_sync (subst (StartsAs drive unlogged Is) is starts)
+      held : (log.at_sync ≡ false) × (log.moves ≡ false)
+      held = once log.start log.at_sync log.moves (subst (StartsAs drive unlogged Is) is starts)
 
-  pub closes-counted : (closed : ClosesStore drive w (λ start. Is start false) pass disk) × (closed.log.cells ≡ written_in b.log)
+  pub closes-counted : (closed : ClosesStore drive w (λ start. Is start false false) pass disk) × (closed.log.cells ≡ written_in b.log)
   closes-counted = cells-by-log b.log refl
 
-  pub closes-store : ClosesStore drive w (λ start. Is start false) pass disk
+  pub closes-store : ClosesStore drive w (λ start. Is start false false) pass disk
   closes-store = closes-counted.0
 
 -- Nothing need be known of the drive at the opening.
@@ -89,6 +92,7 @@ closes-any drive w Is pass disk closed = record {
   log = closed.log;
   disk_is = closed.disk_is;
   began = closed.began;
+  still = closed.still;
   starts = tt;
   keeps = closed.keeps;
 }
@@ -103,19 +107,19 @@ module _ {D : Type 0} (drive : D → Drive) (kept : Bool) (bucket : ℕ) (seen :
   pub found-world : IsWorld seen.world → IsWorld b.opening.world
   found-world is = subst IsWorld (sym (ap (λ (s : State). s.world) opening)) is
 
-  pub found-starts : (unlogged : Type 0) (Is : Drive → Bool → Type 0) → Is (drive log.start) log.at_sync → StartsAs drive unlogged Is b.log
+  pub found-starts : (unlogged : Type 0) (Is : Drive → Bool → Bool → Type 0) → Is (drive log.start) log.at_sync log.moves → StartsAs drive unlogged Is b.log
   found-starts unlogged Is is = subst (StartsAs drive unlogged Is) (sym log_is) is
 
   pub found-disk : (disk : D) → disk_in b.log ≡ Some disk → disk ≡ log.disk
   found-disk disk is = same_Some disk log.disk (sym is ∙ ap disk_in log_is)
 
-  pub found-origin : log.first ≡ seen.cells → log.at_sync ≡ false → origin_of drive b ≡ found_origin kept bucket seen (drive log.start)
-  found-origin first once = λ i. record {
+  pub found-origin : log.first ≡ seen.cells → log.at_sync ≡ false → log.moves ≡ false → origin_of drive b ≡ found_origin kept bucket seen (drive log.start)
+  found-origin first once still = λ i. record {
     world = (opening i).world;
     leaves = (opening i).leaves;
     begun = (opening i).begun;
     log = (ap (λ (l : Option (KeptView D)). option_map (start_in drive) l) log_is
-        ∙ (λ j. Some (record { cells = first j; bytes = (drive log.start).bytes; clock = (drive log.start).clock; faults = (drive log.start).faults; at_sync = once j }))) i;
+        ∙ (λ j. Some (record { cells = first j; bytes = (drive log.start).bytes; clock = (drive log.start).clock; faults = (drive log.start).faults; at_sync = once j; moves = still j }))) i;
     bucket = sized i;
     kept = kind i;
   }
@@ -126,7 +130,7 @@ cells-found kept w bucket old start seen found = λ i. record {
   world = found.finds.world i;
   leaves = found.finds.leaves i;
   begun = found.finds.begun i;
-  log = Some (record { cells = found.finds.count i; bytes = start.bytes; clock = start.clock; faults = start.faults; at_sync = false });
+  log = Some (record { cells = found.finds.count i; bytes = start.bytes; clock = start.clock; faults = start.faults; at_sync = false; moves = false });
   bucket = bucket;
   kept = kept;
 }

@@ -2,7 +2,7 @@
 use Rattle.std.proofs.Common.{◌≡◌, inl, inr, ◌∙◌, ℕ, Bool, true, false, List, [], ◌∷◌, ◌++◌, length, Option, Some, None, is_some, Result, Ok, Err, refl, sym, ap, subst, arith}
 use Rattle.std.specs.Prelude.{⊤, ◌==◌, if◌then◌else◌, IfErr}
 use mathlib.Core.Bool.{true≢false}
-use Rattle.std.specs.Option.{option_map}
+use Rattle.std.specs.Option.{option_map, option_map_or}
 use Rattle.std.proofs.lemmas.Bool.Decides.{nat_tests}
 use Rattle.std.proofs.lemmas.List.{append-nil}
 use Rattle.std.proofs.lemmas.Option.{same_Some}
@@ -16,7 +16,8 @@ use Rattle.plain_list.specs.State.{State, IsLegal}
 use Rattle.plain_list.proofs.Histories.{has_failed-none, failed_cell-append}
 use Rattle.recovery.specs.declared.seen.Seen.{Seen}
 use Rattle.kept_log.specs.KeptView.{KeptView}
-use Rattle.kept_log.specs.Journal.{KeepsIn, KeepsLog, disk_in, waiting_in, waits_from, written_in}
+use Rattle.kept_log.specs.Journal.{KeepsIn, KeepsLog, disk_in, moves_in, waiting_in, waits_from, written_in}
+use Rattle.kept_log.proofs.Moving.{unmoved-keeps}
 use Rattle.kept_log.proofs.Waiting.{keeps-synced}
 use Rattle.book_lock.specs.Own.{times, once_below}
 use Rattle.book_lock.specs.Pass.{Known}
@@ -28,7 +29,7 @@ use Rattle.commit_book.specs.Refusals.{IsMemoryOrDisk, IsRefusedBy, LeavesRefuse
 use Rattle.commit_book.specs.Syncs.{Syncs, lost_sync}
 use Rattle.commit_book.specs.declared.faults.BookFault.{BookFault}
 use Rattle.commit_book.specs.declared.faults.BookFault.TheVariants.{Closed, Disk, HistoryFull, LogFull, Memory, Room, Splitting, Deep, NoLeaf, Stale, NotOpen}
-use Rattle.sessions.specs.Shared.{origin_of, start_in, start_of}
+use Rattle.sessions.specs.Shared.{StartsAs, moves_of, origin_of, start_in, start_of}
 use Rattle.sessions.proofs.Origins.{same-origin, start-of-origin}
 use Rattle.store_file.specs.Closed.{ClosesStore}
 use Rattle.store_file.specs.Objects.{IsLatest}
@@ -121,9 +122,26 @@ done-by None full place is = refl
 same-number : (m n : ℕ) → (m == n) ≡ true → m ≡ n
 same-number m n e = grind (arith, nat_tests)
 
+-- No fresh log may replace the log of a store that has this fact.
+pub fixed-by : {D : Type 0} (drive : D → Drive) (b : BookView D) (pass : Known) → origin_of drive b ≡ pass.origin → StartsAs drive ⊥ (λ start waits moves. moves ≡ false) b.log → moves_of pass.origin ≡ false
+fixed-by {D = D} drive b pass same starts = sym (ap moves_of same) ∙ by b.log starts
+  where
+    by : (log : Option (KeptView D)) → StartsAs drive ⊥ (λ start waits moves. moves ≡ false) log → option_map_or (λ (l : LogStart). l.moves) (option_map (start_in drive) log) false ≡ false
+    by None starts = refl
+    by (Some log) starts = starts
+
+pub starts-fixed : {D : Type 0} (drive : D → Drive) (log : Option (KeptView D)) → StartsAs drive ⊥ (λ start waits moves. (waits ≡ false) × (moves ≡ false)) log → moves_in log ≡ false
+starts-fixed drive None starts = absurd starts
+starts-fixed drive (Some log) starts = starts.1
+
+-- A log whose records wait from now on has the fact of such stores.
+pub waits-start : {D : Type 0} (drive : D → Drive) (log : Option (KeptView D)) → is_some log ≡ true → moves_in log ≡ false → StartsAs drive ⊥ (λ start waits moves. moves ≡ false) (option_map waits_from log)
+waits-start drive None logged fixed = absurd (true≢false (sym logged))
+waits-start drive (Some log) logged fixed = fixed
+
 -- The book of a store that was closed, before its sync and after it.
 module _ {D : Type 0} (drive : D → Drive) (w : ℕ) (pass : Known) (old new : BookView D) (books : AreBooks drive w old new) (value : (old.entries ≡ pass.seen) × (origin_of drive old ≡ pass.origin))
-    (own : (p : ℕ) → times p pass.own ≡ once_below p (length pass.seen)) where
+    (own : (p : ℕ) → times p pass.own ≡ once_below p (length pass.seen)) (fixed : moves_of pass.origin ≡ false) where
   origin-now : origin_of drive new ≡ pass.origin
   origin-now = same-origin drive old new books.origin ∙ value.1
 
@@ -134,6 +152,10 @@ module _ {D : Type 0} (drive : D → Drive) (w : ℕ) (pass : Known) (old new : 
   legal-seen =
       subst (λ (s : State). IsLegal w s pass.seen) (sym (start-of-origin drive w old books.before.opening) ∙ ap start_of value.1)
       (subst (λ (h : List Entry). IsLegal w old.opening h) value.0 books.before.legal)
+
+  still-now : (log : KeptView D) → new.log ≡ Some log → log.moves ≡ false
+  still-now log is =
+      sym (ap (λ (l : Option (KeptView D)). option_map_or (λ (s : LogStart). s.moves) (option_map (start_in drive) l) false) is) ∙ ap moves_of origin-now ∙ fixed
 
   -- No fault is free to come but these.
   told : (fault : BookFault) → IsRefusedBy {A = ℕ} IsMemoryOrDisk (call_refusal old.kept old.entries) (Err fault) → IsTold (failed_cell pass.seen) (length pass.seen == most_events pass.origin.kept) fault
@@ -151,7 +173,7 @@ module _ {D : Type 0} (drive : D → Drive) (w : ℕ) (pass : Known) (old new : 
         → (closed : ClosesStore drive w (λ start. ⊤) pass disk) × (closed.log.cells ≡ written_in log)
     synced-by None is place synced good = absurd (true≢false (sym (ap is_some (sym (ap disk_in is) ∙ disk_is))))
     synced-by (Some log) is place synced good =
-        let in-log = subst (λ (l : Option (KeptView D)). KeepsIn drive w new.opening new.entries l) is books.after.on_log in
+        let in-log = unmoved-keeps drive w new.opening new.entries log (still-now log is) (subst (λ (l : Option (KeptView D)). KeepsIn drive w new.opening new.entries l) is books.after.on_log) in
         let entries : new.entries ≡ pass.seen = synced.entries ∙ value.0 in (
           record {
             own = own;
@@ -159,6 +181,7 @@ module _ {D : Type 0} (drive : D → Drive) (w : ℕ) (pass : Known) (old new : 
             log = log;
             disk_is = same_Some log.disk disk (sym (ap disk_in is) ∙ disk_is);
             began = sym (ap (λ (o : Origin). o.log) origin-now) ∙ ap (λ (l : Option (KeptView D)). option_map (start_in drive) l) is;
+            still = still-now log is;
             starts = tt;
             keeps = subst (λ (s : State). KeepsLog drive w s pass.seen log) opening-now
                 (subst (λ (h : List Entry). KeepsLog drive w new.opening h log) entries
@@ -182,6 +205,7 @@ module _ {D : Type 0} (drive : D → Drive) (w : ℕ) (pass : Known) (old new : 
         log = log;
         disk_is = same_Some log.disk disk (sym (ap disk_in is) ∙ disk_is);
         began = sym (ap (λ (o : Origin). o.log) origin-now) ∙ ap (λ (l : Option (KeptView D)). option_map (start_in drive) l) is;
+        still = still-now log is;
         keeps = subst (λ (s : State). KeepsIn drive w s (pass.seen ++ more) (Some log)) opening-now
             (subst (λ (h : List Entry). KeepsIn drive w new.opening h (Some log)) entries
             (subst (λ (l : Option (KeptView D)). KeepsIn drive w new.opening new.entries l) is books.after.on_log));

@@ -1,5 +1,5 @@
 -- A store over a file that was closed.
-use Rattle.std.specs.Prelude.{◌≡◌, ℕ, length, Some}
+use Rattle.std.specs.Prelude.{◌≡◌, ℕ, length, false, Some}
 use Rattle.disk_trait.specs.Drive.{Drive}
 use Rattle.plain_list.specs.State.{IsLegal}
 use Rattle.kept_log.specs.KeptView.{KeptView}
@@ -17,5 +17,7 @@ pub record ClosesStore {D : Type 0} (drive : D → Drive) (w : ℕ) (Is : Drive 
   pub log : KeptView D
   pub disk_is : log.disk ≡ disk
   pub began : pass.origin.log ≡ Some (start_in drive log)
+  -- No fresh log may replace it.
+  pub still : log.moves ≡ false
   pub starts : Is (drive log.start)
   pub keeps : KeepsLog drive w (start_of pass.origin) pass.seen log

@@ -1,5 +1,6 @@
 -- A store that was opened over one of two files. Both may have a log, as a rotation between them leaves them.
-use Rattle.std.specs.Prelude.{◌≡◌, ◌≢◌, ◌⊎◌, ℕ, ◌<◌, ◌≤◌, true, false, List, [], length, Option, Some, None, is_some}
+use Rattle.std.specs.Prelude.{◌≡◌, ◌≢◌, ◌⊎◌, ℕ, ◌<◌, ◌≤◌, true, false, List, [], length, Option, Some, None, is_some, Result, IfErr}
+use Rattle.std.specs.Result.{IsErrAnd}
 use Rattle.causes.specs.Causes.{Rose}
 use Rattle.atomic_table.specs.Seated.{TableId}
 use Rattle.cell_format.specs.declared.cell.Cell.{Cell}
@@ -8,6 +9,7 @@ use Rattle.disk_trait.specs.Moments.{LeavesNow, LeavesOnly}
 use Rattle.split_log.specs.LogText.{IsLog}
 use Rattle.split_log.specs.LogView.{LogView, most_cells}
 use Rattle.log_state.specs.Recovers.{Recovers, IsLegalCells, state_of}
+use Rattle.recovery.specs.declared.seen.OpenFault.{OpenFault}
 use Rattle.recovery.specs.declared.seen.Seen.{Seen}
 use Rattle.recovery.specs.Calls.{AllWentWell}
 use Rattle.recovery.specs.Making.{IsSmall}
@@ -17,8 +19,9 @@ use Rattle.store_file.specs.declared.either.Which.TheVariants as side
 use Rattle.store_file.specs.declared.faults.OpenCause.TheVariants as opening
 use Rattle.store_file.specs.declared.faults.EitherCause.{EitherCause}
 use Rattle.store_file.specs.declared.faults.EitherCause.TheVariants.{Bucket, OneFile, First, Second, Differ, Disk, Memory}
+use Rattle.store_file.specs.declared.faults.NotEither.{NotEither}
 use Rattle.log_compact.specs.Clearing.{Clears, FailsToClear, KeepsOrClears}
-use Rattle.store_file.specs.Files.{FindsCells, IsUnmade, KeepsFile}
+use Rattle.store_file.specs.Files.{CanOpen, FindsCells, IsUnmade, KeepsFile, ShowsFault}
 use Rattle.store_file.specs.Opened.{OpensStore, BeginsOver}
 use Rattle.store_file.specs.Refused.{NotOpens, is_bucket}
 
@@ -148,6 +151,22 @@ IsOfMemory cause = (cause ≡ Memory) ⊎ (cause ≡ First opening.Memory) ⊎ (
 
 abbrev pub IsFreeEither : Drive → Drive → Drive → Drive → EitherCause → Type 0
 IsFreeEither first second one two cause = IsOfMemory cause ⊎ Rose first.faults one.faults ⊎ Rose second.faults two.faults
+
+-- When the opening of two files is refused, for which cause, and what that leaves. A bucket size that isn't allowed is
+-- always refused, and so is one name for both files (`bucket`, `one_file`). Otherwise a fault that the bytes of a file show
+-- is the cause, that of the first file first (`exact_first`, `exact_second`). Two files that can be opened are refused for
+-- their content only if they differ (`whole`). In the last three cases memory or a drive may refuse too. `refused` says
+-- what each cause leaves.
+pub record RefusesEitherExactly {A D : Type 0} (drive : D → Drive) (w size : ℕ) (first_file second_file : List ℕ) (first second : D) (result : Result A (NotEither D)) : Type 0 where
+  pub refused : IfErr result (λ (e : NotEither D). RefusesEither drive w size first_file second_file first second e.first e.second e.cause)
+  pub bucket : is_bucket size ≡ false → IsErrAnd result (λ (e : NotEither D). e.cause ≡ Bucket)
+  pub one_file : is_bucket size ≡ true → first_file ≡ second_file → IsErrAnd result (λ (e : NotEither D). e.cause ≡ OneFile)
+  pub exact_first : (fault : OpenFault) → is_bucket size ≡ true → first_file ≢ second_file → ShowsFault w (drive first) fault
+      → IsErrAnd result (λ (e : NotEither D). (e.cause ≡ First (opening.Log fault)) ⊎ IsFreeEither (drive first) (drive second) (drive e.first) (drive e.second) e.cause)
+  pub exact_second : (fault : OpenFault) → is_bucket size ≡ true → first_file ≢ second_file → CanOpen w (drive first) → ShowsFault w (drive second) fault
+      → IsErrAnd result (λ (e : NotEither D). (e.cause ≡ Second (opening.Log fault)) ⊎ IsFreeEither (drive first) (drive second) (drive e.first) (drive e.second) e.cause)
+  pub whole : is_bucket size ≡ true → first_file ≢ second_file → CanOpen w (drive first) → CanOpen w (drive second)
+      → IfErr result (λ (e : NotEither D). (e.cause ≡ Differ) ⊎ IsFreeEither (drive first) (drive second) (drive e.first) (drive e.second) e.cause)
 
 -- The result of clearing a log, if no store continues over the other log.
 abbrev pub CameOf : ℕ → EitherCause → Drive → Drive → Type 0

@@ -12,6 +12,8 @@ use Rattle.log_compact.specs.Clearing.{Clears, FailsToClear}
 use Rattle.sessions.specs.Shared.{origin_of}
 use Rattle.store_file.specs.declared.rotating.BeginCause.{BeginCause}
 use Rattle.store_file.specs.declared.rotating.BeginCause.TheVariants as begun
+use Rattle.store_file.specs.declared.rotating.NotRotated.{NotRotated}
+use Rattle.store_file.specs.declared.rotating.NotRotated.TheVariants as back
 use Rattle.store_file.specs.declared.rotating_at_sync.EndCause.{EndCause}
 use Rattle.store_file.specs.declared.rotating_at_sync.EndCause.TheVariants.{Unsynced, Refused, Unsure, Uncleared, Memory}
 use Rattle.store_file.specs.Closed.{ClosesStore}
@@ -42,6 +44,13 @@ EndsRotation drive w Are old spare first second Memory = IsMoved drive w Are Cle
 abbrev pub ended_by : BeginCause → EndCause
 ended_by (begun.Refused cause) = Refused cause
 ended_by begun.Unsure = Unsure
+
+-- The cause if a store that writes each record at once doesn't continue over a second file.
+abbrev pub end_cause : {I D P : Type 0} → NotRotated I D P → EndCause
+end_cause (back.Kept store pass left cause) = Refused cause
+end_cause (back.Unsure disk left) = Unsure
+end_cause (back.Uncleared book left) = Uncleared
+end_cause (back.Memory book left) = Memory
 
 -- The old log was cleared, and a store was created from the book, whose records wait for a sync.
 pub record FinishesAtSync {D : Type 0} (drive : D → Drive) (b : BookView D) (log : Option (LogView D)) (lock : TableId) (pass : Known) (left : D) : Type 0 where

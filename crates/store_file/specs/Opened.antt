@@ -31,7 +31,7 @@ found_origin kept bucket seen start = record {
   world = seen.world;
   leaves = seen.leaves;
   begun = seen.begun;
-  log = Some (record { cells = seen.cells; bytes = start.bytes; clock = start.clock; faults = start.faults; at_sync = false });
+  log = Some (record { cells = seen.cells; bytes = start.bytes; clock = start.clock; faults = start.faults; at_sync = false; moves = false });
   bucket = bucket;
   kept = kept;
 }
@@ -42,7 +42,7 @@ cells_origin kept w bucket cells start = record {
   world = (state_of w cells).world;
   leaves = (state_of w cells).leaves;
   begun = (state_of w cells).begun;
-  log = Some (record { cells = length cells; bytes = start.bytes; clock = start.clock; faults = start.faults; at_sync = false });
+  log = Some (record { cells = length cells; bytes = start.bytes; clock = start.clock; faults = start.faults; at_sync = false; moves = false });
   bucket = bucket;
   kept = kept;
 }

@@ -1,5 +1,6 @@
 -- Why no store is opened over a file, and what that leaves.
-use Rattle.std.specs.Prelude.{◌≡◌, ◌⊎◌, ℕ, nat_le, ◌<◌, ◌≤◌, Bool, true, false, ◌&&◌, List, length, Some, is_some, ⊤}
+use Rattle.std.specs.Prelude.{◌≡◌, ◌⊎◌, ℕ, nat_le, ◌<◌, ◌≤◌, Bool, true, false, ◌&&◌, List, length, Some, is_some, Result, IfErr, ⊤}
+use Rattle.std.specs.Result.{IsErrAnd}
 use Rattle.causes.specs.Causes.{Rose}
 use Rattle.cell_format.specs.Spelling.{newest}
 use Rattle.disk_trait.specs.Drive.{Drive, AttachedOne, AttachedAtMost, SameFile, Stays}
@@ -11,7 +12,8 @@ use Rattle.recovery.specs.Opening.{HasNoLog, IsUntouched}
 use Rattle.recovery.specs.Wanted.{MayTell}
 use Rattle.store_file.specs.declared.faults.OpenCause.{OpenCause}
 use Rattle.store_file.specs.declared.faults.OpenCause.TheVariants.{Bucket, Attach, Disk, Log, Memory}
-use Rattle.store_file.specs.Files.{KeepsFile}
+use Rattle.store_file.specs.declared.faults.NotOpened.{NotOpened}
+use Rattle.store_file.specs.Files.{CanOpen, KeepsFile, ShowsFault}
 
 -- Whether a bucket may have this size.
 abbrev pub is_bucket : ℕ → Bool
@@ -73,3 +75,14 @@ RefusesStore drive w bucket file disk back Attach = (is_bucket bucket ≡ true) 
 RefusesStore drive w bucket file disk back Disk = (is_bucket bucket ≡ true) × NotOpens w file (drive disk) (drive back) Disk
 RefusesStore drive w bucket file disk back (Log fault) = (is_bucket bucket ≡ true) × NotOpens w file (drive disk) (drive back) (Log fault)
 RefusesStore drive w bucket file disk back Memory = (is_bucket bucket ≡ true) × NotOpens w file (drive disk) (drive back) Memory
+
+-- When the opening of a file is refused, for which cause, and what that leaves. A bucket size that isn't allowed is always
+-- refused, as `Bucket` (`bucket`). If the size is allowed, bytes that show a fault are refused for this fault, and bytes
+-- that can be opened are not refused for their content (`exact`, `whole`). In both cases memory or the drive may refuse
+-- too. `refused` says what each cause leaves.
+pub record RefusesStoreExactly {A D : Type 0} (drive : D → Drive) (w size : ℕ) (file : List ℕ) (disk : D) (result : Result A (NotOpened D)) : Type 0 where
+  pub refused : IfErr result (λ (e : NotOpened D). RefusesStore drive w size file disk e.disk e.cause)
+  pub bucket : is_bucket size ≡ false → IsErrAnd result (λ (e : NotOpened D). e.cause ≡ Bucket)
+  pub exact : (fault : OpenFault) → is_bucket size ≡ true → ShowsFault w (drive disk) fault
+      → IsErrAnd result (λ (e : NotOpened D). (e.cause ≡ Log fault) ⊎ IsFreeCause (drive disk) (drive e.disk) e.cause)
+  pub whole : is_bucket size ≡ true → CanOpen w (drive disk) → IfErr result (λ (e : NotOpened D). IsFreeCause (drive disk) (drive e.disk) e.cause)

@@ -96,7 +96,7 @@ pub record IsRotatedAlone {D : Type 0} (drive : D → Drive) (w : ℕ) (Are : Li
   pub to : RotatesTo drive w Are old last spare (origin_of drive b) count
   pub none : b.entries ≡ []
   pub has : HasWorld b
-  pub starts : StartsAs drive ⊥ (λ start waits. waits ≡ false) b.log
+  pub starts : StartsAs drive ⊥ (λ start waits moves. (waits ≡ false) × (moves ≡ false)) b.log
   pub leaves : LeavesLog drive Came count last left
 
 -- The book of a store that was closed with this pass.
@@ -104,7 +104,7 @@ pub record IsClosedBook {D : Type 0} (drive : D → Drive) (w : ℕ) (pass : Kno
   pub book : IsBook drive w b
   pub value : (b.entries ≡ pass.seen) × (origin_of drive b ≡ pass.origin)
   pub own : (p : ℕ) → times p pass.own ≡ once_below p (length pass.seen)
-  pub starts : StartsAs drive ⊥ (λ start waits. waits ≡ false) b.log
+  pub starts : StartsAs drive ⊥ (λ start waits moves. (waits ≡ false) × (moves ≡ false)) b.log
   pub has : HasWorld b
 
 -- The cause if a store returns no content.
@@ -210,7 +210,7 @@ pub record GoesAlone {D : Type 0} (drive : D → Drive) (Came : ℕ → Drive �
   pub origin_is : origin_of drive new ≡ found_origin b.kept b.bucket seen (drive start)
   pub none : new.entries ≡ []
   pub has : HasWorld new
-  pub starts : StartsAs drive ⊥ (λ start waits. waits ≡ false) new.log
+  pub starts : StartsAs drive ⊥ (λ start waits moves. (waits ≡ false) × (moves ≡ false)) new.log
   pub leaves : LeavesOf drive Came b left
 
 abbrev pub GoesNot : {I D P : Type 0} → (D → Drive) → BookView D → Seen → D → NotRotated I D P → Type 0

@@ -52,6 +52,8 @@ pub record KeepsUnsynced {D : Type 0} (drive : D → Drive) (w : ℕ) (pass : Kn
   pub log : KeptView D
   pub disk_is : log.disk ≡ disk
   pub began : pass.origin.log ≡ Some (start_in drive log)
+  -- No fresh log may replace it.
+  pub still : log.moves ≡ false
   pub keeps : KeepsIn drive w (start_of pass.origin) (pass.seen ++ more) (Some log)
 
 -- The same, and this record is the first one that the file may lack.

@@ -36,17 +36,17 @@ pub fn close_store<I: Index, D: LogDisk>(
 }
 
 /// The same for a store with a fact about its drive (`Start`), if no book without a log has that fact, and none whose
-/// records wait for a sync. The contract says that the fact held of the drive when its log was opened.
+/// records wait for a sync or whose log a fresh one may replace. The contract says that the fact held of the drive when its log was opened.
 pub fn close_over<I: Index, D: LogDisk, O: Start>(
     store: Store<I, D, O>,
     pass: Pass<SharedBook<I, D, O>>,
 ) -> ClosedStore<D>
     requires logged { O.unlogged → ⊥ }
-    requires once { (start : D) (waits : Bool) → O.is (D.drive start) waits → waits ≡ false }
+    requires once { (start : D) (waits moves : Bool) → O.is (D.drive start) waits moves → (waits ≡ false) × (moves ≡ false) }
     requires lock { pass.lock ≡ store }
     requires off { pass.holds ≡ false }
     requires parts { pass.parts ≡ all_parts }
-    ensures closes { ClosesStore D.drive I.WIDTH (λ start. O.is start false) pass result.disk }
+    ensures closes { ClosesStore D.drive I.WIDTH (λ start. O.is start false false) pass result.disk }
     ensures lost { result.lost ≡ failed_cell pass.seen }
 {
     let book = store.close(pass);

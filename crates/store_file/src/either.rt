@@ -1,15 +1,14 @@
 //! Opens a store over one of two files.
-ghost use Rattle.std.specs.Prelude.{◌≡◌, ◌≢◌, ◌⊎◌, ◌↔◌, true, false, None, IfOk, IfErr, IsTrue};
+ghost use Rattle.std.specs.Prelude.{◌≡◌, ◌⊎◌, ◌↔◌, false, None, IfOk, IfErr, IsTrue};
 ghost use Rattle.std.specs.Result.{IsErrAnd};
 ghost use Rattle.zorder.specs.Width.{IsWidth};
 ghost use Rattle.recovery.specs.declared.seen.OpenFault.{OpenFault};
 ghost use Rattle.commit_book.specs.OpenedLog.{IsOpenedLog};
 ghost use Rattle.log_compact.specs.Clearing.{Clears, KeepsOrClears};
-ghost use Rattle.store_file.specs.Either.{Chooses, CameOf, OpensEither, RefusesEither, RefusesBoth, IsFreeEither};
+ghost use Rattle.store_file.specs.Either.{Chooses, CameOf, OpensEither, RefusesEitherExactly, RefusesBoth, IsFreeEither};
 ghost use Rattle.store_file.specs.Either.{BeginsEither, BeginsNeither};
 ghost use Rattle.store_file.specs.Files.{OpensFile, CanOpen, ShowsFault};
 ghost use Rattle.store_file.specs.Opened.{BeginsOver, IsFirst};
-ghost use Rattle.store_file.specs.Refused.{is_bucket};
 ghost use Rattle.store_file.specs.Waiting.{IsAtSync, Writes};
 
 use crate::faults::{EitherCause, NotEither, NotOpened, OpenCause};
@@ -89,22 +88,7 @@ pub fn open_either<I: Index, D: LogDisk>(
     ensures opened { IfOk result (λ o. OpensEither D.drive I.WIDTH bucket first_file.now second_file.now first second
         o.which o.store o.pass o.points o.latest o.records o.spare) }
     ensures first { IfOk result (λ o. IsFirst o.store o.pass) }
-    ensures refused { IfErr result (λ e. RefusesEither D.drive I.WIDTH bucket first_file.now second_file.now first second
-        e.first e.second e.cause) }
-    ensures bucket { is_bucket bucket ≡ false → IsErrAnd result (λ e. e.cause ≡ EitherCause.Bucket) }
-    ensures one_file { is_bucket bucket ≡ true → first_file.now ≡ second_file.now → IsErrAnd result (λ e. e.cause ≡ EitherCause.OneFile) }
-    ensures exact_first { (fault : OpenFault) → is_bucket bucket ≡ true → first_file.now ≢ second_file.now
-        → ShowsFault I.WIDTH (D.drive first) fault
-        → IsErrAnd result (λ e. (e.cause ≡ EitherCause.First (OpenCause.Log fault))
-        ⊎ IsFreeEither (D.drive first) (D.drive second) (D.drive e.first) (D.drive e.second) e.cause) }
-    ensures exact_second { (fault : OpenFault) → is_bucket bucket ≡ true → first_file.now ≢ second_file.now
-        → CanOpen I.WIDTH (D.drive first) → ShowsFault I.WIDTH (D.drive second) fault
-        → IsErrAnd result (λ e. (e.cause ≡ EitherCause.Second (OpenCause.Log fault))
-        ⊎ IsFreeEither (D.drive first) (D.drive second) (D.drive e.first) (D.drive e.second) e.cause) }
-    ensures whole { is_bucket bucket ≡ true → first_file.now ≢ second_file.now
-        → CanOpen I.WIDTH (D.drive first) → CanOpen I.WIDTH (D.drive second)
-        → IfErr result (λ e. (e.cause ≡ EitherCause.Differ)
-        ⊎ IsFreeEither (D.drive first) (D.drive second) (D.drive e.first) (D.drive e.second) e.cause) }
+    ensures refused { RefusesEitherExactly D.drive I.WIDTH bucket first_file.now second_file.now first second result }
 {
     open_either_as::<I, D, OverFile>(alloc, first, first_file, second, second_file, bucket, false)
 }
@@ -121,22 +105,7 @@ pub fn open_either_at_sync<I: Index, D: LogDisk>(
     ensures opened { IfOk result (λ o. IsAtSync (λ begun. OpensEither D.drive I.WIDTH bucket first_file.now second_file.now
         first second o.which o.store begun o.points o.latest o.records o.spare) o.pass) }
     ensures first { IfOk result (λ o. IsFirst o.store o.pass) }
-    ensures refused { IfErr result (λ e. RefusesEither D.drive I.WIDTH bucket first_file.now second_file.now first second
-        e.first e.second e.cause) }
-    ensures bucket { is_bucket bucket ≡ false → IsErrAnd result (λ e. e.cause ≡ EitherCause.Bucket) }
-    ensures one_file { is_bucket bucket ≡ true → first_file.now ≡ second_file.now → IsErrAnd result (λ e. e.cause ≡ EitherCause.OneFile) }
-    ensures exact_first { (fault : OpenFault) → is_bucket bucket ≡ true → first_file.now ≢ second_file.now
-        → ShowsFault I.WIDTH (D.drive first) fault
-        → IsErrAnd result (λ e. (e.cause ≡ EitherCause.First (OpenCause.Log fault))
-        ⊎ IsFreeEither (D.drive first) (D.drive second) (D.drive e.first) (D.drive e.second) e.cause) }
-    ensures exact_second { (fault : OpenFault) → is_bucket bucket ≡ true → first_file.now ≢ second_file.now
-        → CanOpen I.WIDTH (D.drive first) → ShowsFault I.WIDTH (D.drive second) fault
-        → IsErrAnd result (λ e. (e.cause ≡ EitherCause.Second (OpenCause.Log fault))
-        ⊎ IsFreeEither (D.drive first) (D.drive second) (D.drive e.first) (D.drive e.second) e.cause) }
-    ensures whole { is_bucket bucket ≡ true → first_file.now ≢ second_file.now
-        → CanOpen I.WIDTH (D.drive first) → CanOpen I.WIDTH (D.drive second)
-        → IfErr result (λ e. (e.cause ≡ EitherCause.Differ)
-        ⊎ IsFreeEither (D.drive first) (D.drive second) (D.drive e.first) (D.drive e.second) e.cause) }
+    ensures refused { RefusesEitherExactly D.drive I.WIDTH bucket first_file.now second_file.now first second result }
 {
     open_either_as::<I, D, AtSync>(alloc, first, first_file, second, second_file, bucket, true)
 }
@@ -151,26 +120,11 @@ fn open_either_as<I: Index, D: LogDisk, O: Start>(
     bucket: u32,
     at_sync: bool,
 ) -> Result<OpenedEither<I, D, O>, NotEither<D>>
-    requires start { (start : D) → O.is (D.drive start) at_sync }
+    requires start { (start : D) → O.is (D.drive start) at_sync false }
     ensures opened { IfOk result (λ o. Writes at_sync (λ begun. OpensEither D.drive I.WIDTH bucket first_file.now
         second_file.now first second o.which o.store begun o.points o.latest o.records o.spare) o.pass) }
     ensures first { IfOk result (λ o. IsFirst o.store o.pass) }
-    ensures refused { IfErr result (λ e. RefusesEither D.drive I.WIDTH bucket first_file.now second_file.now first second
-        e.first e.second e.cause) }
-    ensures bucket { is_bucket bucket ≡ false → IsErrAnd result (λ e. e.cause ≡ EitherCause.Bucket) }
-    ensures one_file { is_bucket bucket ≡ true → first_file.now ≡ second_file.now → IsErrAnd result (λ e. e.cause ≡ EitherCause.OneFile) }
-    ensures exact_first { (fault : OpenFault) → is_bucket bucket ≡ true → first_file.now ≢ second_file.now
-        → ShowsFault I.WIDTH (D.drive first) fault
-        → IsErrAnd result (λ e. (e.cause ≡ EitherCause.First (OpenCause.Log fault))
-        ⊎ IsFreeEither (D.drive first) (D.drive second) (D.drive e.first) (D.drive e.second) e.cause) }
-    ensures exact_second { (fault : OpenFault) → is_bucket bucket ≡ true → first_file.now ≢ second_file.now
-        → CanOpen I.WIDTH (D.drive first) → ShowsFault I.WIDTH (D.drive second) fault
-        → IsErrAnd result (λ e. (e.cause ≡ EitherCause.Second (OpenCause.Log fault))
-        ⊎ IsFreeEither (D.drive first) (D.drive second) (D.drive e.first) (D.drive e.second) e.cause) }
-    ensures whole { is_bucket bucket ≡ true → first_file.now ≢ second_file.now
-        → CanOpen I.WIDTH (D.drive first) → CanOpen I.WIDTH (D.drive second)
-        → IfErr result (λ e. (e.cause ≡ EitherCause.Differ)
-        ⊎ IsFreeEither (D.drive first) (D.drive second) (D.drive e.first) (D.drive e.second) e.cause) }
+    ensures refused { RefusesEitherExactly D.drive I.WIDTH bucket first_file.now second_file.now first second result }
 {
     if !is_bucket(bucket) {
         return Err(NotEither {
@@ -199,7 +153,7 @@ fn go_on_over_either<I: Index, D: LogDisk, O: Start>(
     bucket: u32,
     at_sync: bool,
 ) -> Result<OpenedEither<I, D, O>, NotEither<D>>
-    requires start { (start : D) → O.is (D.drive start) at_sync }
+    requires start { (start : D) → O.is (D.drive start) at_sync false }
     requires one { IsOpenedLog D.drive I.WIDTH both.one.seen both.one.start.value both.one.log }
     requires two { IsOpenedLog D.drive I.WIDTH both.two.seen both.two.start.value both.two.log }
     ensures begins { IfOk result (λ o. Writes at_sync (λ begun. BeginsEither D.drive bucket both.one.seen both.two.seen
@@ -327,7 +281,7 @@ fn go_on_over<I: Index, D: LogDisk, O: Start>(
     bucket: u32,
     at_sync: bool,
 ) -> Result<Taken<I, D, O>, NotTaken<D>>
-    requires start { O.is (D.drive chosen.start.value) at_sync }
+    requires start { O.is (D.drive chosen.start.value) at_sync false }
     requires opened { IsOpenedLog D.drive I.WIDTH chosen.seen chosen.start.value chosen.log }
     requires other { other.failed ≡ None }
     ensures begins { IfOk result (λ t. Writes at_sync (λ begun. BeginsOver D.drive bucket chosen.seen chosen.start.value

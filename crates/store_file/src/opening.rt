@@ -1,14 +1,12 @@
 //! Opens a store over a file.
-ghost use Rattle.std.specs.Prelude.{◌≡◌, ◌⊎◌, true, false, [], Some, None, is_some, IfOk, IfErr};
-ghost use Rattle.std.specs.Result.{IsErrAnd};
+ghost use Rattle.std.specs.Prelude.{◌≡◌, true, false, [], Some, None, is_some, IfOk, IfErr};
 ghost use Rattle.plain_list.specs.World.{IsWorld};
-ghost use Rattle.recovery.specs.declared.seen.OpenFault.{OpenFault};
 ghost use Rattle.kept_log.specs.Journal.{disk_in};
 ghost use Rattle.commit_book.specs.OpenedLog.{IsOpenedLog};
 ghost use Rattle.sessions.specs.Shared.{StartsAs, origin_of};
-ghost use Rattle.store_file.specs.Files.{ReadiesLog, CanOpen, ShowsFault};
+ghost use Rattle.store_file.specs.Files.{ReadiesLog};
 ghost use Rattle.store_file.specs.Opened.{OpensStore, BeginsOver, IsFirst, first_pass};
-ghost use Rattle.store_file.specs.Refused.{RefusesStore, IsFreeCause, is_bucket};
+ghost use Rattle.store_file.specs.Refused.{RefusesStoreExactly, is_bucket};
 ghost use Rattle.store_file.specs.Waiting.{IsAtSync, Writes};
 
 use crate::closing::parts_of;
@@ -58,12 +56,7 @@ pub fn open_store<I: Index, D: LogDisk>(
     ensures opened { IfOk result (λ o. OpensStore D.drive I.WIDTH bucket file.now (D.drive disk)
         o.store o.pass o.points o.latest o.records) }
     ensures first { IfOk result (λ o. IsFirst o.store o.pass) }
-    ensures refused { IfErr result (λ e. RefusesStore D.drive I.WIDTH bucket file.now disk e.disk e.cause) }
-    ensures bucket { is_bucket bucket ≡ false → IsErrAnd result (λ e. e.cause ≡ OpenCause.Bucket) }
-    ensures exact { (fault : OpenFault) → is_bucket bucket ≡ true → ShowsFault I.WIDTH (D.drive disk) fault
-        → IsErrAnd result (λ e. (e.cause ≡ OpenCause.Log fault) ⊎ IsFreeCause (D.drive disk) (D.drive e.disk) e.cause) }
-    ensures whole { is_bucket bucket ≡ true → CanOpen I.WIDTH (D.drive disk)
-        → IfErr result (λ e. IsFreeCause (D.drive disk) (D.drive e.disk) e.cause) }
+    ensures refused { RefusesStoreExactly D.drive I.WIDTH bucket file.now disk result }
 {
     open_over::<I, D, OverFile>(alloc, disk, file, bucket)
 }
@@ -76,16 +69,11 @@ pub fn open_over<I: Index, D: LogDisk, O: Start>(
     file: &str,
     bucket: u32,
 ) -> Result<OpenedStore<I, D, O>, NotOpened<D>>
-    requires start { (start : D) → ReadiesLog I.WIDTH file.now (D.drive disk) (D.drive start) → O.is (D.drive start) false }
+    requires start { (start : D) → ReadiesLog I.WIDTH file.now (D.drive disk) (D.drive start) → O.is (D.drive start) false false }
     ensures opened { IfOk result (λ o. OpensStore D.drive I.WIDTH bucket file.now (D.drive disk)
         o.store o.pass o.points o.latest o.records) }
     ensures first { IfOk result (λ o. IsFirst o.store o.pass) }
-    ensures refused { IfErr result (λ e. RefusesStore D.drive I.WIDTH bucket file.now disk e.disk e.cause) }
-    ensures bucket { is_bucket bucket ≡ false → IsErrAnd result (λ e. e.cause ≡ OpenCause.Bucket) }
-    ensures exact { (fault : OpenFault) → is_bucket bucket ≡ true → ShowsFault I.WIDTH (D.drive disk) fault
-        → IsErrAnd result (λ e. (e.cause ≡ OpenCause.Log fault) ⊎ IsFreeCause (D.drive disk) (D.drive e.disk) e.cause) }
-    ensures whole { is_bucket bucket ≡ true → CanOpen I.WIDTH (D.drive disk)
-        → IfErr result (λ e. IsFreeCause (D.drive disk) (D.drive e.disk) e.cause) }
+    ensures refused { RefusesStoreExactly D.drive I.WIDTH bucket file.now disk result }
 {
     open_as::<I, D, O>(alloc, disk, file, bucket, false)
 }
@@ -101,12 +89,7 @@ pub fn open_at_sync<I: Index, D: LogDisk>(
     ensures opened { IfOk result (λ o. IsAtSync (λ first. OpensStore D.drive I.WIDTH bucket file.now (D.drive disk)
         o.store first o.points o.latest o.records) o.pass) }
     ensures first { IfOk result (λ o. IsFirst o.store o.pass) }
-    ensures refused { IfErr result (λ e. RefusesStore D.drive I.WIDTH bucket file.now disk e.disk e.cause) }
-    ensures bucket { is_bucket bucket ≡ false → IsErrAnd result (λ e. e.cause ≡ OpenCause.Bucket) }
-    ensures exact { (fault : OpenFault) → is_bucket bucket ≡ true → ShowsFault I.WIDTH (D.drive disk) fault
-        → IsErrAnd result (λ e. (e.cause ≡ OpenCause.Log fault) ⊎ IsFreeCause (D.drive disk) (D.drive e.disk) e.cause) }
-    ensures whole { is_bucket bucket ≡ true → CanOpen I.WIDTH (D.drive disk)
-        → IfErr result (λ e. IsFreeCause (D.drive disk) (D.drive e.disk) e.cause) }
+    ensures refused { RefusesStoreExactly D.drive I.WIDTH bucket file.now disk result }
 {
     open_as::<I, D, AtSync>(alloc, disk, file, bucket, true)
 }
@@ -119,16 +102,11 @@ fn open_as<I: Index, D: LogDisk, O: Start>(
     bucket: u32,
     at_sync: bool,
 ) -> Result<OpenedStore<I, D, O>, NotOpened<D>>
-    requires start { (start : D) → ReadiesLog I.WIDTH file.now (D.drive disk) (D.drive start) → O.is (D.drive start) at_sync }
+    requires start { (start : D) → ReadiesLog I.WIDTH file.now (D.drive disk) (D.drive start) → O.is (D.drive start) at_sync false }
     ensures opened { IfOk result (λ o. Writes at_sync (λ first. OpensStore D.drive I.WIDTH bucket file.now (D.drive disk)
         o.store first o.points o.latest o.records) o.pass) }
     ensures first { IfOk result (λ o. IsFirst o.store o.pass) }
-    ensures refused { IfErr result (λ e. RefusesStore D.drive I.WIDTH bucket file.now disk e.disk e.cause) }
-    ensures bucket { is_bucket bucket ≡ false → IsErrAnd result (λ e. e.cause ≡ OpenCause.Bucket) }
-    ensures exact { (fault : OpenFault) → is_bucket bucket ≡ true → ShowsFault I.WIDTH (D.drive disk) fault
-        → IsErrAnd result (λ e. (e.cause ≡ OpenCause.Log fault) ⊎ IsFreeCause (D.drive disk) (D.drive e.disk) e.cause) }
-    ensures whole { is_bucket bucket ≡ true → CanOpen I.WIDTH (D.drive disk)
-        → IfErr result (λ e. IsFreeCause (D.drive disk) (D.drive e.disk) e.cause) }
+    ensures refused { RefusesStoreExactly D.drive I.WIDTH bucket file.now disk result }
 {
     if !is_bucket(bucket) {
         return Err(NotOpened {
@@ -157,7 +135,7 @@ pub(crate) fn store_of<I: Index, D: LogDisk, O: Start>(
     at_sync: bool,
 ) -> Result<OpenedStore<I, D, O>, NotOpened<D>>
     requires opened { IsOpenedLog D.drive I.WIDTH opened.seen opened.start.value opened.log }
-    requires start { O.is (D.drive opened.start.value) at_sync }
+    requires start { O.is (D.drive opened.start.value) at_sync false }
     ensures begins { IfOk result (λ o. Writes at_sync (λ first. BeginsOver D.drive bucket opened.seen opened.start.value
         o.store first o.points o.latest o.records) o.pass) }
     ensures back { IfErr result (λ e. (e.disk ≡ opened.log.disk) × (e.cause ≡ OpenCause.Memory)) }

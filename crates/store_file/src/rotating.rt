@@ -6,10 +6,12 @@ ghost use Rattle.plain_list.specs.World.{IsWorld};
 ghost use Rattle.split_log.specs.LogView.{LogView};
 ghost use Rattle.sessions.specs.Shared.{StartsAs};
 ghost use Rattle.sessions.specs.Steps.{all_parts};
+ghost use Rattle.store_file.specs.Ended.{end_cause};
 ghost use Rattle.store_file.specs.Rotated.{world_left, AreLeft, AreAnew, BeginsAnew, BeginsFresh, BeginsLeft, IsClosedBook};
 ghost use Rattle.store_file.specs.Rotated.{Finishes, FinishesNot, IsRotated, IsNotRotated, NotBegins, ComesBack, begin_cause, content_cause};
 
 use crate::closing::{ClosedStore, close_store};
+use crate::rotating_at_sync::EndCause;
 use crate::start::OverFile;
 use book_lock::Pass;
 use commit_book::{Anew, Book, BookFault, Content, Replaced};
@@ -80,6 +82,20 @@ pub enum NotRotated<I: Index, D: LogDisk> {
         book: Book<I, D>,
         spare: D,
     },
+}
+
+impl<I: Index, D: LogDisk> NotRotated<I, D> {
+    /// Why the store doesn't continue over the second file: never `Unsynced`.
+    pub fn cause(&self) -> EndCause
+        ensures { result ≡ end_cause self.now }
+    {
+        match self {
+            NotRotated::Kept { cause, .. } => EndCause::Refused { cause: *cause },
+            NotRotated::Unsure { .. } => EndCause::Unsure,
+            NotRotated::Uncleared { .. } => EndCause::Uncleared,
+            NotRotated::Memory { .. } => EndCause::Memory,
+        }
+    }
 }
 
 // An index with new leaves, and the log that was begun with them.
@@ -308,7 +324,7 @@ fn finish<I: Index, D: LogDisk>(
     requires none { replaced.book.entries ≡ [] }
     requires world { IsWorld replaced.book.opening.world }
     requires logged { is_some replaced.book.log ≡ true }
-    requires starts { StartsAs D.drive ⊥ (λ start waits. waits ≡ false) replaced.book.log }
+    requires starts { StartsAs D.drive ⊥ (λ start waits moves. (waits ≡ false) × (moves ≡ false)) replaced.book.log }
     requires log { is_some replaced.log ≡ true }
     requires good { (log : LogView D) → replaced.log ≡ Some log → log.failed ≡ None }
     ensures finished { IfOk result (λ r. Finishes D.drive replaced.book replaced.log r.store r.pass r.spare) }

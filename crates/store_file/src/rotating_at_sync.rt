@@ -3,6 +3,7 @@ ghost use Rattle.std.specs.Prelude.{◌≡◌, [], false, true, Some, None, is_s
 ghost use Rattle.plain_list.specs.History.{world_after};
 ghost use Rattle.plain_list.specs.State.{state_after};
 ghost use Rattle.plain_list.specs.World.{IsWorld};
+ghost use Rattle.kept_log.specs.Journal.{moves_in};
 ghost use Rattle.split_log.specs.LogView.{LogView};
 ghost use Rattle.commit_book.specs.IsBook.{IsBook};
 ghost use Rattle.commit_book.specs.Rotation.{HasContent};
@@ -26,13 +27,13 @@ use sessions::{SharedBook, Store};
 use std::alloc::Global;
 use thiserror::Error;
 
-/// Why a store whose records wait doesn't continue over a second file.
+/// Why a store doesn't continue over a second file.
 #[derive(Clone, Copy, Debug, PartialEq, Eq, Error)]
 pub enum EndCause {
     /// The first file may lack records that waited. Nothing was written to the second file.
     #[error("the first file may lack changes: {cause}")]
     Unsynced { cause: SyncCause },
-    /// The first file has all changes. Nothing was written to the second file.
+    /// Nothing was written to the second file. Unless the cause is `Closed`, the first file has all changes.
     #[error("{cause}")]
     Refused { cause: RotateCause },
     /// The second drive failed. The first file has all changes, and the second has all objects or none.
@@ -116,6 +117,7 @@ fn finish_at_sync<I: Index, D: LogDisk>(
     requires none { replaced.book.entries ≡ [] }
     requires world { IsWorld replaced.book.opening.world }
     requires logged { is_some replaced.book.log ≡ true }
+    requires fixed { moves_in replaced.book.log ≡ false }
     requires log { is_some replaced.log ≡ true }
     requires good { (log : LogView D) → replaced.log ≡ Some log → log.failed ≡ None }
     ensures finished { IfOk result (λ r. FinishesAtSync D.drive replaced.book replaced.log r.store r.pass r.spare) }

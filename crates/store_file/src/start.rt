@@ -1,8 +1,8 @@
 //! The facts that stores over files have.
 use sessions::Start;
 
-/// The fact that a store over a file has: its book has a log, to which each record is written at once. No value of this
-/// type is ever created.
+/// The fact that a store over a file has: its book has a log, to which each record is written at once, and which no fresh
+/// log may replace. No value of this type is ever created.
 pub struct OverFile;
 
 impl Start for OverFile {
@@ -10,17 +10,17 @@ impl Start for OverFile {
 
     ghost unlogged = { ⊥ };
 
-    ghost is = { λ drive waits. waits ≡ false };
+    ghost is = { λ drive waits moves. (waits ≡ false) × (moves ≡ false) };
 }
 
-/// The fact of a store over a file whose records may wait in memory for a sync: its book has a log. No value of this type
-/// is ever created.
+/// The fact of a store over a file whose records may wait in memory for a sync: its book has a log, which no fresh log may
+/// replace. No value of this type is ever created.
 pub struct AtSync;
 
 impl Start for AtSync {
-    ghost use Rattle.std.specs.Prelude.{⊤};
+    ghost use Rattle.std.specs.Prelude.{◌≡◌, false};
 
     ghost unlogged = { ⊥ };
 
-    ghost is = { λ drive waits. ⊤ };
+    ghost is = { λ drive waits moves. moves ≡ false };
 }

@@ -1,7 +1,7 @@
 //! A store over a file whose records may wait in memory for a sync.
 ghost use Rattle.std.specs.Prelude.{◌≡◌, [], false, true, None, Some, is_some, IfOk, IfErr, ⊤};
 ghost use Rattle.plain_list.specs.World.{IsWorld};
-ghost use Rattle.kept_log.specs.Journal.{disk_in, failed_cell};
+ghost use Rattle.kept_log.specs.Journal.{disk_in, failed_cell, moves_in};
 ghost use Rattle.sessions.specs.Shared.{origin_of};
 ghost use Rattle.sessions.specs.Steps.{all_parts};
 ghost use Rattle.store_file.specs.Closed.{ClosesStore};
@@ -75,6 +75,7 @@ pub(crate) fn waiting_store<I: Index, D: LogDisk>(
     requires none { book.entries ≡ [] }
     requires world { IsWorld book.opening.world }
     requires logged { is_some book.log ≡ true }
+    requires fixed { moves_in book.log ≡ false }
     ensures store { IfOk result (λ r. r.1 ≡ first_pass r.0 (waiting_origin (origin_of D.drive book))) }
     ensures back { IfErr result (λ disk. disk_in book.log ≡ Some disk) }
 {

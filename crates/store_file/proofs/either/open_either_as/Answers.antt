@@ -1,4 +1,6 @@
-use Rattle.std.proofs.Common.{◌≡◌, inr, ◌∙◌, ℕ, true, sym, subst}
+use Rattle.std.proofs.Common.{◌≡◌, inr, ◌∙◌, ℕ, true, sym, subst, arith, rules}
+use Rattle.std.proofs.lemmas.Grind.{common_steps}
+use mathlib.Core.Bool.{true≢false}
 use Rattle.store_file.specs.Either.{BeginsEither, OpensEither, RefusesBoth}
 use Rattle.store_file.specs.Files.{OpensFile, CanOpen, ShowsFault}
 use Rattle.store_file.specs.Refused.{is_bucket}
@@ -45,46 +47,42 @@ returns-in-Ok-clause-refused g c =
     let opens = subst (λ (w : ℕ). OpensFile w c.args.first_file.now (drive c.args.first) (drive one.start.value) (drive one.log.disk) one.seen) c.WIDTH.ensures c.in-Ok.ensures.one in
     let besides = subst (λ (w : ℕ). OpensFile w c.args.second_file.now (drive c.args.second) (drive two.start.value) (drive two.log.disk) two.seen) c.WIDTH.ensures c.in-Ok.ensures.two in
     let sized : is_bucket c.args.bucket ≡ true = sym c.is_bucket.ensures ∙ c.if-not-is_bucket.false in
-    err-with _ _
-    (λ e is. neither-begun drive g.met.D.LogDisk.keeps_laws w c.args.bucket sized c.args.first_file.now c.args.second_file.now c.args.first c.args.second one.start.value two.start.value one.seen two.seen one.log two.log
-    opens besides c.in-Ok.ensures.logs.0 c.in-Ok.ensures.logs.2 e.first e.second e.cause is)
-    c.go_on_over_either.result c.go_on_over_either.ensures.refused
-
-pub returns-in-Ok-clause-whole : goal.returns-in-Ok-clause-whole
-returns-in-Ok-clause-whole g c = λ size apart good also.
-    let drive = g.D.LogDisk.drive in
-    let w = g.I.Index.WIDTH in
-    let one = c.in-Ok.both.one in
-    let two = c.in-Ok.both.two in
-    let opens = subst (λ (w : ℕ). OpensFile w c.args.first_file.now (drive c.args.first) (drive one.start.value) (drive one.log.disk) one.seen) c.WIDTH.ensures c.in-Ok.ensures.one in
-    let besides = subst (λ (w : ℕ). OpensFile w c.args.second_file.now (drive c.args.second) (drive two.start.value) (drive two.log.disk) two.seen) c.WIDTH.ensures c.in-Ok.ensures.two in
-    err-with _ _
-    (λ e is. neither-free drive g.met.D.LogDisk.keeps_laws w c.args.bucket size c.args.first_file.now c.args.second_file.now c.args.first c.args.second one.start.value two.start.value one.seen two.seen one.log two.log
-    opens besides c.in-Ok.ensures.logs.0 c.in-Ok.ensures.logs.2 e.first e.second e.cause is)
-    c.go_on_over_either.result c.go_on_over_either.ensures.refused
-
-pub returns-in-Ok-clause-exact_first : goal.returns-in-Ok-clause-exact_first
-returns-in-Ok-clause-exact_first g c = λ fault sized apart shows. absurd (c.in-Ok.ensures.exact_first fault (subst (λ (w : ℕ). ShowsFault w (g.D.LogDisk.drive c.args.first) fault) (sym c.WIDTH.ensures) shows))
-
-pub returns-in-Ok-clause-exact_second : goal.returns-in-Ok-clause-exact_second
-returns-in-Ok-clause-exact_second g c = λ fault sized apart good shows. absurd (c.in-Ok.ensures.exact_second fault
-    (subst (λ (w : ℕ). CanOpen w (g.D.LogDisk.drive c.args.first)) (sym c.WIDTH.ensures) good)
-    (subst (λ (w : ℕ). ShowsFault w (g.D.LogDisk.drive c.args.second) fault) (sym c.WIDTH.ensures) shows))
+    record {
+      refused = err-with _ _
+          (λ e is. neither-begun drive g.met.D.LogDisk.keeps_laws w c.args.bucket sized c.args.first_file.now c.args.second_file.now c.args.first c.args.second one.start.value two.start.value one.seen two.seen one.log two.log
+          opens besides c.in-Ok.ensures.logs.0 c.in-Ok.ensures.logs.2 e.first e.second e.cause is)
+          c.go_on_over_either.result c.go_on_over_either.ensures.refused;
+      bucket = λ other. absurd (true≢false (sym sized ∙ other));
+      one_file = first_of (search rules, grind (arith, common_steps));
+      exact_first = λ fault size apart shows. absurd (c.in-Ok.ensures.exact_first fault (subst (λ (w : ℕ). ShowsFault w (drive c.args.first) fault) (sym c.WIDTH.ensures) shows));
+      exact_second = λ fault size apart good shows. absurd (c.in-Ok.ensures.exact_second fault
+          (subst (λ (w : ℕ). CanOpen w (drive c.args.first)) (sym c.WIDTH.ensures) good)
+          (subst (λ (w : ℕ). ShowsFault w (drive c.args.second) fault) (sym c.WIDTH.ensures) shows));
+      whole = λ size apart good also. err-with _ _
+          (λ e is. neither-free drive g.met.D.LogDisk.keeps_laws w c.args.bucket size c.args.first_file.now c.args.second_file.now c.args.first c.args.second one.start.value two.start.value one.seen two.seen one.log two.log
+          opens besides c.in-Ok.ensures.logs.0 c.in-Ok.ensures.logs.2 e.first e.second e.cause is)
+          c.go_on_over_either.result c.go_on_over_either.ensures.refused;
+    }
 
 pub returns-in-Err-clause-refused : goal.returns-in-Err-clause-refused
 returns-in-Err-clause-refused g c =
     let drive = g.D.LogDisk.drive in
+    let w = g.I.Index.WIDTH in
     let e = c.in-Err.refused in
-    refuses-both drive g.I.Index.WIDTH c.args.bucket c.args.first_file.now c.args.second_file.now c.args.first c.args.second e.first e.second e.cause (sym c.is_bucket.ensures ∙ c.if-not-is_bucket.false)
-    (subst (λ (w : ℕ). RefusesBoth drive w c.args.first_file.now c.args.second_file.now c.args.first c.args.second e.first e.second e.cause) c.WIDTH.ensures c.in-Err.ensures.refused)
-
-pub returns-in-Err-clause-exact_first : goal.returns-in-Err-clause-exact_first
-returns-in-Err-clause-exact_first g c = λ fault sized apart shows. c.in-Err.ensures.exact_first fault (subst (λ (w : ℕ). ShowsFault w (g.D.LogDisk.drive c.args.first) fault) (sym c.WIDTH.ensures) shows)
-
-pub returns-in-Err-clause-exact_second : goal.returns-in-Err-clause-exact_second
-returns-in-Err-clause-exact_second g c = λ fault sized apart good shows. c.in-Err.ensures.exact_second fault
-    (subst (λ (w : ℕ). CanOpen w (g.D.LogDisk.drive c.args.first)) (sym c.WIDTH.ensures) good)
-    (subst (λ (w : ℕ). ShowsFault w (g.D.LogDisk.drive c.args.second) fault) (sym c.WIDTH.ensures) shows)
+    let sized : is_bucket c.args.bucket ≡ true = sym c.is_bucket.ensures ∙ c.if-not-is_bucket.false in
+    record {
+      refused = refuses-both drive w c.args.bucket c.args.first_file.now c.args.second_file.now c.args.first c.args.second e.first e.second e.cause sized
+          (subst (λ (w : ℕ). RefusesBoth drive w c.args.first_file.now c.args.second_file.now c.args.first c.args.second e.first e.second e.cause) c.WIDTH.ensures c.in-Err.ensures.refused);
+      bucket = λ other. absurd (true≢false (sym sized ∙ other));
+      one_file = first_of (search rules, grind (arith, common_steps));
+      exact_first = λ fault size apart shows. c.in-Err.ensures.exact_first fault (subst (λ (w : ℕ). ShowsFault w (drive c.args.first) fault) (sym c.WIDTH.ensures) shows);
+      exact_second = λ fault size apart good shows. c.in-Err.ensures.exact_second fault
+          (subst (λ (w : ℕ). CanOpen w (drive c.args.first)) (sym c.WIDTH.ensures) good)
+          (subst (λ (w : ℕ). ShowsFault w (drive c.args.second) fault) (sym c.WIDTH.ensures) shows);
+      whole = λ size apart good also. inr (c.in-Err.ensures.whole
+          (subst (λ (w : ℕ). CanOpen w (drive c.args.first)) (sym c.WIDTH.ensures) good)
+          (subst (λ (w : ℕ). CanOpen w (drive c.args.second)) (sym c.WIDTH.ensures) also));
+    }
 
 pub go_on_over_either-requires-clause-one : goal.go_on_over_either-requires-clause-one
 go_on_over_either-requires-clause-one g c =
@@ -99,8 +97,3 @@ go_on_over_either-requires-clause-two g c =
     let two = c.in-Ok.both.two in
     let opens = subst (λ (w : ℕ). OpensFile w c.args.second_file.now (drive c.args.second) (drive two.start.value) (drive two.log.disk) two.seen) c.WIDTH.ensures c.in-Ok.ensures.two in
     opened-log drive g.I.Index.WIDTH c.args.second_file.now (drive c.args.second) two.start.value two.seen two.log opens (c.in-Ok.ensures.logs.2, c.in-Ok.ensures.logs.3)
-
-pub returns-in-Err-clause-whole : goal.returns-in-Err-clause-whole
-returns-in-Err-clause-whole g c = λ size apart good also. inr (c.in-Err.ensures.whole
-    (subst (λ (w : ℕ). CanOpen w (g.D.LogDisk.drive c.args.first)) (sym c.WIDTH.ensures) good)
-    (subst (λ (w : ℕ). CanOpen w (g.D.LogDisk.drive c.args.second)) (sym c.WIDTH.ensures) also))

@@ -13,6 +13,6 @@ returns-in-Ok-shared-clause-begins g c =
     let by = c.in-Ok.ensures in
     let origin = found-origin drive false c.args.bucket opened.seen b (first_log opened.log opened.start.value)
     (ap (λ (v : BookView _). v.opening) was ∙ by.opening.0) (ap (λ (v : BookView _). v.kept) was) (ap (λ (v : BookView _). v.bucket) was ∙ by.opening.2) (ap (λ (v : BookView _). v.log) was ∙ by.log)
-    c.requires.opened.counts refl in
+    c.requires.opened.counts refl refl in
     begins-at drive c.args.bucket opened.seen opened.start.value b c.in-Ok-written_at.book origin c.as_slice-members.ensures.world c.in-Ok-shared.store c.in-Ok-shared.pass _ _ _
     c.in-Ok-shared.ensures.store (search rules) (search rules) (search rules) c.args.at_sync c.in-Ok-written_at.ensures.book

@@ -15,7 +15,7 @@ rotate_anew-requires-clause-content g c =
     content-anew drive w b c.args.pass closed c.args.spare opened.start.value opened.seen opened.log leaves c.in-Ok.ensures.begun
 
 pub finish-requires-clause-starts : goal.finish-requires-clause-starts
-finish-requires-clause-starts g c = starts-over g.D.LogDisk.drive _ _ c.rotate_anew.ensures.rotated refl
+finish-requires-clause-starts g c = starts-over g.D.LogDisk.drive _ _ c.rotate_anew.ensures.rotated (refl, refl)
 
 pub returns-in-Ok-clause-rotated : goal.returns-in-Ok-clause-rotated
 returns-in-Ok-clause-rotated g c =

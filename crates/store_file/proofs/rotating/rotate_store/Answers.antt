@@ -14,7 +14,7 @@ rotate-requires-clause-content g c =
     content-left drive w b c.args.pass closed c.args.spare opened.start.value opened.seen opened.log c.in-Ok.ensures.begun
 
 pub finish-requires-clause-starts : goal.finish-requires-clause-starts
-finish-requires-clause-starts g c = starts-over g.D.LogDisk.drive _ _ c.rotate.ensures.rotated refl
+finish-requires-clause-starts g c = starts-over g.D.LogDisk.drive _ _ c.rotate.ensures.rotated (refl, refl)
 
 pub returns-in-Ok-clause-rotated : goal.returns-in-Ok-clause-rotated
 returns-in-Ok-clause-rotated g c =
