@@ -1,5 +1,5 @@
 -- A store as one value, and a rotation that was refused.
-use Rattle.std.specs.Prelude.{◌≡◌, ℕ, Bool, List, ⊤}
+use Rattle.std.specs.Prelude.{◌≡◌, ℕ, Bool, List, Result, Ok, Err, ⊤}
 use Rattle.disk_trait.specs.Drive.{Drive}
 use Rattle.plain_list.specs.History.{failed_cell}
 use Rattle.log_compact.specs.Clearing.{Clears, FailsToClear}
@@ -9,6 +9,11 @@ use Rattle.store_file.specs.Opened.{IsFirst}
 use Rattle.store_file.specs.Rotated.{IsRotatedAlone, IsUnsure, RefusesAnew, world_left}
 use Rattle.store_file.specs.declared.rotating.NotRotated.{NotRotated}
 use Rattle.store_file.specs.declared.rotating.NotRotated.TheVariants as apart
+use Rattle.store_file.specs.declared.rotating.RotateCause.{RotateCause}
+use Rattle.store_file.specs.declared.rotating_at_sync.EndCause.{EndCause}
+use Rattle.store_file.specs.declared.rotating_at_sync.EndCause.TheVariants as cause
+use Rattle.pisrakun.specs.declared.file_store.EndedStore.{EndedStore}
+use Rattle.pisrakun.specs.declared.file_store.EndedStore.TheVariants as ended
 use Rattle.pisrakun.specs.declared.file_store.NotRotatedStore.{NotRotatedStore}
 use Rattle.pisrakun.specs.declared.file_store.NotRotatedStore.TheVariants.{Kept, Unsure, Uncleared, Memory}
 use Rattle.pisrakun.specs.declared.label.Label.{Label}
@@ -37,3 +42,23 @@ KeepsOrEnds drive w Are old spare (Unsure disk left) =
     ClosesStore drive w (λ start. ⊤) old.pass disk × IsUnsure drive w Are (failed_cell old.pass.seen) (world_left old.pass.origin old.pass.seen) spare left
 KeepsOrEnds drive w Are old spare (Uncleared book left) = IsRotatedAlone drive w Are (λ count. FailsToClear) old.pass spare book left
 KeepsOrEnds drive w Are old spare (Memory book left) = IsRotatedAlone drive w Are Clears old.pass spare book left
+
+-- Why a store doesn't continue over a second file, and why one has ended.
+abbrev pub end_cause : {I D T : Type 0} → NotRotatedStore I D T → EndCause
+end_cause (Kept store left why) = cause.Refused why
+end_cause (Unsure disk left) = cause.Unsure
+end_cause (Uncleared book left) = cause.Uncleared
+end_cause (Memory book left) = cause.Memory
+
+abbrev pub cause_left : {I D T : Type 0} → EndedStore I D T → EndCause
+cause_left (ended.Unsure disk left) = cause.Unsure
+cause_left (ended.Uncleared book left) = cause.Uncleared
+cause_left (ended.Memory book left) = cause.Memory
+
+-- The store goes on, and is returned with the second drive and the cause. Or it has ended, and all that is left of it is
+-- returned.
+abbrev pub ComesApart : {I D T : Type 0} → NotRotatedStore I D T → Result (Caller × D × RotateCause) (EndedStore I D T) → Type 0
+ComesApart refused (Ok kept) = refused ≡ Kept kept.0 kept.1 kept.2
+ComesApart refused (Err (ended.Unsure disk left)) = refused ≡ Unsure disk left
+ComesApart refused (Err (ended.Uncleared book left)) = refused ≡ Uncleared book left
+ComesApart refused (Err (ended.Memory book left)) = refused ≡ Memory book left

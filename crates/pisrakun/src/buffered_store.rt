@@ -1,14 +1,11 @@
 //! A store over a file whose changes wait for a sync.
-ghost use Rattle.std.specs.Prelude.{◌≡◌, ◌≢◌, ◌⊎◌, true, false, None, IfOk, IfErr, ⊤};
-ghost use Rattle.std.specs.Result.{IsErrAnd};
-ghost use Rattle.recovery.specs.declared.seen.OpenFault.{OpenFault};
+ghost use Rattle.std.specs.Prelude.{◌≡◌, None, IfOk, IfErr, ⊤};
 ghost use Rattle.plain_list.specs.History.{failed_cell};
 ghost use Rattle.store_file.specs.Closed.{ClosesStore};
-ghost use Rattle.store_file.specs.Either.{OpensEither, RefusesEither, IsFreeEither};
+ghost use Rattle.store_file.specs.Either.{OpensEither, RefusesEitherExactly};
 ghost use Rattle.store_file.specs.Ended.{EndsRotation};
-ghost use Rattle.store_file.specs.Files.{CanOpen, ShowsFault};
 ghost use Rattle.store_file.specs.Opened.{OpensStore};
-ghost use Rattle.store_file.specs.Refused.{RefusesStore, IsFreeCause, is_bucket};
+ghost use Rattle.store_file.specs.Refused.{RefusesStoreExactly};
 ghost use Rattle.store_file.specs.Rotated.{AreLeft, IsRotated};
 ghost use Rattle.store_file.specs.Waiting.{ClosesUnsynced, IsAtSync};
 ghost use Rattle.pisrakun.specs.Fresh.{IsNewIn};
@@ -19,8 +16,8 @@ use disk_trait::LogDisk;
 use index_layer::Index;
 use std::alloc::Global;
 use store_file::{
-    AtSync, EitherCause, EndedRotation, NotEither, NotOpened, OpenCause, Unsynced, close_at_sync,
-    open_at_sync, open_either_at_sync, rotate_at_sync,
+    AtSync, EndedRotation, NotEither, NotOpened, Unsynced, close_at_sync, open_at_sync,
+    open_either_at_sync, rotate_at_sync,
 };
 
 /// A store whose changes are in memory first, and in a log in a file after `sync`. An answered change may be lost in a
@@ -42,12 +39,7 @@ impl<I: Index, D: LogDisk> ObjectStore<I, D, AtSync> {
         ensures opened { IfOk result (λ r. IsAtSync (λ first. OpensStore D.drive I.WIDTH bucket file.now (D.drive disk)
             r.0.pass.lock first r.1.objects r.1.latest r.1.records) r.0.pass) }
         ensures new { IfOk result (λ r. IsNewIn 0 r.0) }
-        ensures refused { IfErr result (λ e. RefusesStore D.drive I.WIDTH bucket file.now disk e.disk e.cause) }
-        ensures bucket { is_bucket bucket ≡ false → IsErrAnd result (λ e. e.cause ≡ OpenCause.Bucket) }
-        ensures exact { (fault : OpenFault) → is_bucket bucket ≡ true → ShowsFault I.WIDTH (D.drive disk) fault
-            → IsErrAnd result (λ e. (e.cause ≡ OpenCause.Log fault) ⊎ IsFreeCause (D.drive disk) (D.drive e.disk) e.cause) }
-        ensures whole { is_bucket bucket ≡ true → CanOpen I.WIDTH (D.drive disk)
-            → IfErr result (λ e. IsFreeCause (D.drive disk) (D.drive e.disk) e.cause) }
+        ensures refused { RefusesStoreExactly D.drive I.WIDTH bucket file.now disk result }
     {
         match open_at_sync::<I, D>(alloc, disk, file, bucket) {
             Ok(opened) => Ok(opened_file(alloc, opened)),
@@ -68,23 +60,7 @@ impl<I: Index, D: LogDisk> ObjectStore<I, D, AtSync> {
             second_file.now first second o.which o.store.pass.lock begun o.found.objects o.found.latest o.found.records
             o.spare) o.store.pass) }
         ensures new { IfOk result (λ o. IsNewIn 0 o.store) }
-        ensures refused { IfErr result (λ e. RefusesEither D.drive I.WIDTH bucket first_file.now second_file.now first second
-            e.first e.second e.cause) }
-        ensures bucket { is_bucket bucket ≡ false → IsErrAnd result (λ e. e.cause ≡ EitherCause.Bucket) }
-        ensures one_file { is_bucket bucket ≡ true → first_file.now ≡ second_file.now
-            → IsErrAnd result (λ e. e.cause ≡ EitherCause.OneFile) }
-        ensures exact_first { (fault : OpenFault) → is_bucket bucket ≡ true → first_file.now ≢ second_file.now
-            → ShowsFault I.WIDTH (D.drive first) fault
-            → IsErrAnd result (λ e. (e.cause ≡ EitherCause.First (OpenCause.Log fault))
-            ⊎ IsFreeEither (D.drive first) (D.drive second) (D.drive e.first) (D.drive e.second) e.cause) }
-        ensures exact_second { (fault : OpenFault) → is_bucket bucket ≡ true → first_file.now ≢ second_file.now
-            → CanOpen I.WIDTH (D.drive first) → ShowsFault I.WIDTH (D.drive second) fault
-            → IsErrAnd result (λ e. (e.cause ≡ EitherCause.Second (OpenCause.Log fault))
-            ⊎ IsFreeEither (D.drive first) (D.drive second) (D.drive e.first) (D.drive e.second) e.cause) }
-        ensures whole { is_bucket bucket ≡ true → first_file.now ≢ second_file.now
-            → CanOpen I.WIDTH (D.drive first) → CanOpen I.WIDTH (D.drive second)
-            → IfErr result (λ e. (e.cause ≡ EitherCause.Differ)
-            ⊎ IsFreeEither (D.drive first) (D.drive second) (D.drive e.first) (D.drive e.second) e.cause) }
+        ensures refused { RefusesEitherExactly D.drive I.WIDTH bucket first_file.now second_file.now first second result }
     {
         match open_either_at_sync::<I, D>(alloc, first, first_file, second, second_file, bucket) {
             Ok(opened) => Ok(opened_pair(alloc, opened)),

@@ -1,17 +1,14 @@
 //! A store over a file as one value, or over two files alternately.
-ghost use Rattle.std.specs.Prelude.{◌≡◌, ◌≢◌, ◌⊎◌, [], true, false, IfOk, IfErr, ⊤};
-ghost use Rattle.std.specs.Result.{IsErrAnd};
-ghost use Rattle.recovery.specs.declared.seen.OpenFault.{OpenFault};
+ghost use Rattle.std.specs.Prelude.{◌≡◌, [], false, IfOk, IfErr, ⊤};
 ghost use Rattle.plain_list.specs.History.{failed_cell};
 ghost use Rattle.sessions.specs.Shared.{HasWorld, StartsAs, origin_of};
 ghost use Rattle.store_file.specs.Closed.{ClosesStore};
-ghost use Rattle.store_file.specs.Either.{OpensEither, RefusesEither, IsFreeEither};
-ghost use Rattle.store_file.specs.Files.{CanOpen, ShowsFault};
+ghost use Rattle.store_file.specs.Either.{OpensEither, RefusesEitherExactly};
 ghost use Rattle.store_file.specs.Opened.{OpensStore, IsFirst, first_pass};
-ghost use Rattle.store_file.specs.Refused.{RefusesStore, IsFreeCause, is_bucket};
+ghost use Rattle.store_file.specs.Refused.{RefusesStoreExactly};
 ghost use Rattle.store_file.specs.Rotated.{AreLeft, AreAnew, IsRotated};
 ghost use Rattle.pisrakun.specs.Fresh.{IsNewIn, new_in};
-ghost use Rattle.pisrakun.specs.Rotated.{IsAsOne, IsFirstIfKept, KeepsOrEnds};
+ghost use Rattle.pisrakun.specs.Rotated.{ComesApart, IsAsOne, IsFirstIfKept, KeepsOrEnds, cause_left, end_cause};
 
 use crate::label::Label;
 use crate::object_store::ObjectStore;
@@ -22,9 +19,8 @@ use sessions::{Start, Store};
 use std::alloc::Global;
 use std::sync::Wait;
 use store_file::{
-    ClosedStore, EitherCause, NotEither, NotOpened, NotRotated, OpenCause, OpenedEither,
-    OpenedStore, OverFile, RotateCause, Rotated, Which, close_store, open_either, open_store,
-    rotate_anew, rotate_store,
+    ClosedStore, EndCause, NotEither, NotOpened, NotRotated, OpenedEither, OpenedStore, OverFile,
+    RotateCause, Rotated, Which, close_store, open_either, open_store, rotate_anew, rotate_store,
 };
 
 /// A store whose changes are in a log in a file. Each change is written and synced before its call returns.
@@ -89,6 +85,60 @@ pub enum NotRotatedStore<I: Index, D: LogDisk> {
     },
 }
 
+/// A store that goes on over its own file, the drive of the second file, and why it wasn't rotated.
+pub type KeptStore<I, D> = (FileStore<I, D>, D, RotateCause);
+
+/// What is left of a store that has ended in a rotation, as in `NotRotatedStore`.
+#[derive(Drop)]
+pub enum EndedStore<I: Index, D: LogDisk> {
+    Unsure { disk: D, spare: D },
+    Uncleared { book: Book<I, D>, disk: D },
+    Memory { book: Book<I, D>, spare: D },
+}
+
+impl<I: Index, D: LogDisk> EndedStore<I, D> {
+    /// Why the store has ended. Drop what is left, and open both files with `open_pair`.
+    pub fn cause(&self) -> EndCause
+        ensures { result ≡ cause_left self.now }
+    {
+        match self {
+            EndedStore::Unsure { .. } => EndCause::Unsure,
+            EndedStore::Uncleared { .. } => EndCause::Uncleared,
+            EndedStore::Memory { .. } => EndCause::Memory,
+        }
+    }
+}
+
+impl<I: Index, D: LogDisk> NotRotatedStore<I, D> {
+    /// Why the store doesn't continue over the second file: never `Unsynced`.
+    pub fn cause(&self) -> EndCause
+        ensures { result ≡ end_cause self.now }
+    {
+        match self {
+            NotRotatedStore::Kept { cause, .. } => EndCause::Refused { cause: *cause },
+            NotRotatedStore::Unsure { .. } => EndCause::Unsure,
+            NotRotatedStore::Uncleared { .. } => EndCause::Uncleared,
+            NotRotatedStore::Memory { .. } => EndCause::Memory,
+        }
+    }
+
+    /// Returns the store if it goes on, and otherwise what is left of it, which may be dropped.
+    pub fn or_kept(self) -> Result<KeptStore<I, D>, EndedStore<I, D>>
+        ensures { ComesApart self result }
+    {
+        match self {
+            NotRotatedStore::Kept {
+                store,
+                spare,
+                cause,
+            } => Ok((store, spare, cause)),
+            NotRotatedStore::Unsure { disk, spare } => Err(EndedStore::Unsure { disk, spare }),
+            NotRotatedStore::Uncleared { book, disk } => Err(EndedStore::Uncleared { book, disk }),
+            NotRotatedStore::Memory { book, spare } => Err(EndedStore::Memory { book, spare }),
+        }
+    }
+}
+
 impl<I: Index, D: LogDisk> ObjectStore<I, D, OverFile> {
     /// Opens a store over the log in a file. It creates the file if it isn't there, and the log if the file has at most
     /// 17 bytes. `bucket` is how many objects a leaf should have, 4 to 4,096: 64 serves most programs.
@@ -101,12 +151,7 @@ impl<I: Index, D: LogDisk> ObjectStore<I, D, OverFile> {
         ensures opened { IfOk result (λ r. OpensStore D.drive I.WIDTH bucket file.now (D.drive disk)
             r.0.pass.lock r.0.pass r.1.objects r.1.latest r.1.records) }
         ensures new { IfOk result (λ r. IsNewIn 0 r.0) }
-        ensures refused { IfErr result (λ e. RefusesStore D.drive I.WIDTH bucket file.now disk e.disk e.cause) }
-        ensures bucket { is_bucket bucket ≡ false → IsErrAnd result (λ e. e.cause ≡ OpenCause.Bucket) }
-        ensures exact { (fault : OpenFault) → is_bucket bucket ≡ true → ShowsFault I.WIDTH (D.drive disk) fault
-            → IsErrAnd result (λ e. (e.cause ≡ OpenCause.Log fault) ⊎ IsFreeCause (D.drive disk) (D.drive e.disk) e.cause) }
-        ensures whole { is_bucket bucket ≡ true → CanOpen I.WIDTH (D.drive disk)
-            → IfErr result (λ e. IsFreeCause (D.drive disk) (D.drive e.disk) e.cause) }
+        ensures refused { RefusesStoreExactly D.drive I.WIDTH bucket file.now disk result }
     {
         match open_store::<I, D>(alloc, disk, file, bucket) {
             Ok(opened) => Ok(opened_file(alloc, opened)),
@@ -130,23 +175,7 @@ impl<I: Index, D: LogDisk> ObjectStore<I, D, OverFile> {
         ensures opened { IfOk result (λ o. OpensEither D.drive I.WIDTH bucket first_file.now second_file.now first second
             o.which o.store.pass.lock o.store.pass o.found.objects o.found.latest o.found.records o.spare) }
         ensures new { IfOk result (λ o. IsNewIn 0 o.store) }
-        ensures refused { IfErr result (λ e. RefusesEither D.drive I.WIDTH bucket first_file.now second_file.now first second
-            e.first e.second e.cause) }
-        ensures bucket { is_bucket bucket ≡ false → IsErrAnd result (λ e. e.cause ≡ EitherCause.Bucket) }
-        ensures one_file { is_bucket bucket ≡ true → first_file.now ≡ second_file.now
-            → IsErrAnd result (λ e. e.cause ≡ EitherCause.OneFile) }
-        ensures exact_first { (fault : OpenFault) → is_bucket bucket ≡ true → first_file.now ≢ second_file.now
-            → ShowsFault I.WIDTH (D.drive first) fault
-            → IsErrAnd result (λ e. (e.cause ≡ EitherCause.First (OpenCause.Log fault))
-            ⊎ IsFreeEither (D.drive first) (D.drive second) (D.drive e.first) (D.drive e.second) e.cause) }
-        ensures exact_second { (fault : OpenFault) → is_bucket bucket ≡ true → first_file.now ≢ second_file.now
-            → CanOpen I.WIDTH (D.drive first) → ShowsFault I.WIDTH (D.drive second) fault
-            → IsErrAnd result (λ e. (e.cause ≡ EitherCause.Second (OpenCause.Log fault))
-            ⊎ IsFreeEither (D.drive first) (D.drive second) (D.drive e.first) (D.drive e.second) e.cause) }
-        ensures whole { is_bucket bucket ≡ true → first_file.now ≢ second_file.now
-            → CanOpen I.WIDTH (D.drive first) → CanOpen I.WIDTH (D.drive second)
-            → IfErr result (λ e. (e.cause ≡ EitherCause.Differ)
-            ⊎ IsFreeEither (D.drive first) (D.drive second) (D.drive e.first) (D.drive e.second) e.cause) }
+        ensures refused { RefusesEitherExactly D.drive I.WIDTH bucket first_file.now second_file.now first second result }
     {
         match open_either::<I, D>(alloc, first, first_file, second, second_file, bucket) {
             Ok(opened) => Ok(opened_pair(alloc, opened)),
@@ -162,7 +191,7 @@ impl<I: Index, D: LogDisk> ObjectStore<I, D, OverFile> {
     ) -> Result<ObjectStore<I, D, OverFile>, Book<I, D>>
         requires none { book.entries ≡ [] }
         requires world { HasWorld book }
-        requires starts { StartsAs D.drive ⊥ (λ start waits. waits ≡ false) book.log }
+        requires starts { StartsAs D.drive ⊥ (λ start waits moves. (waits ≡ false) × (moves ≡ false)) book.log }
         ensures store { IfOk result (λ store. store ≡ new_in 0 (first_pass store.pass.lock (origin_of D.drive book))) }
         ensures back { IfErr result (λ back. back ≡ book) }
     {

@@ -12,7 +12,7 @@
 //! | let threads share it | `work_all`, and a `Work` for each thread, which calls by a `Client` |
 //! | let threads take clients whenever they like | `pool`, and a `Service` for each thread, which calls by a `Guest` |
 //! | ask several questions of one moment | `view`, which returns a `View` |
-//! | continue before its log is full | `rotate` |
+//! | continue before its log is full | `rotate`, and `or_kept` if it is refused |
 //! | watch fences | `Fences`, `Tally`, and `last_change` after each call |
 //!
 //! Both are an `ObjectStore`: a store with the right to call and to end it, in one value. Contracts see it as a caller
@@ -64,8 +64,10 @@ pub use fence_watch::MOST_FENCE_EVENTS;
 pub use fence_watch::MOST_FENCES;
 pub use fence_watch::Tally;
 pub use fence_watch::WatchFault;
+pub use file_store::EndedStore;
 pub use file_store::FileStore;
 pub use file_store::Found;
+pub use file_store::KeptStore;
 pub use file_store::NotRotatedStore;
 pub use file_store::OpenedPair;
 pub use file_store::RotatedStore;

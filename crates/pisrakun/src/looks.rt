@@ -6,11 +6,11 @@ ghost use Rattle.plain_list.specs.History.{failed_cell};
 ghost use Rattle.plain_list.specs.Queries.{members_in};
 ghost use Rattle.plain_list.specs.World.{IsWorld};
 ghost use Rattle.sessions.specs.Opens.{places_seen};
-ghost use Rattle.sessions.specs.Rooms.{room_at};
+ghost use Rattle.sessions.specs.Rooms.{IsRoom};
 ghost use Rattle.sessions.specs.Settles.{Settles};
 ghost use Rattle.sessions.specs.Splits.{SamePass};
 ghost use Rattle.sessions.specs.Views.{IsView, IsWorldAt};
-ghost use Rattle.store_client.specs.Caller.{is_near_end, world_seen};
+ghost use Rattle.store_client.specs.Caller.{IsNearEnd, world_seen};
 ghost use Rattle.store_file.specs.Objects.{IsLatest};
 ghost use Rattle.pisrakun.specs.Status.{IsStatus, records_of};
 
@@ -44,7 +44,7 @@ impl<I: Index, D: LogDisk, O: Start> ObjectStore<I, D, O> {
     /// How many more entries the history takes, and records the log, if there is one.
     pub fn room<R: Wait>(&mut self, rt: &R) -> Room
         ensures same { self.new ≡ self.old }
-        ensures room { result ≡ room_at self.old.pass.origin self.old.pass.seen }
+        ensures room { IsRoom self.old.pass.origin self.old.pass.seen result }
     {
         self.store.room(rt, &mut self.pass)
     }
@@ -62,7 +62,7 @@ impl<I: Index, D: LogDisk, O: Start> ObjectStore<I, D, O> {
     /// store in memory it is false, since its history takes 2^60 entries.
     pub fn is_near_end<R: Wait>(&mut self, rt: &R) -> bool
         ensures same { self.new ≡ self.old }
-        ensures near { result ≡ is_near_end self.old.pass }
+        ensures near { IsNearEnd self.old.pass result }
     {
         let room = self.room(rt);
         has_no_room(&room)

@@ -94,7 +94,7 @@ impl<I: Index, D: LogDisk, O: Start> ObjectStore<I, D, O> {
     }
 
     /// What the last call that was answered has changed, with its place: `None` if it was a query, or if its answer says that
-    /// nothing changed. After a batch it is `None` too.
+    /// nothing changed. After a batch it is `None` too: `Replies::changes` returns what the batch has changed.
     pub fn last_change(&self) -> Option<Change>
         ensures { result ≡ self.now.change }
     {
