@@ -2,7 +2,7 @@
 use crate::drivers::{Driver, Told, count_found};
 use crate::yard::Day;
 use anyhow::{Context, Result, bail};
-use pisrakun::{FileStore, KdTrie, LogDisk, NotRotatedStore, Room, RotatedStore};
+use pisrakun::{FileStore, KdTrie, LogDisk, Room, RotatedStore};
 use std::alloc::Global;
 use std::sync::Wait;
 use std::thread::Threads;
@@ -44,16 +44,10 @@ pub fn play_day<D: LogDisk + Send, R: Threads + Wait + Sync>(
 pub fn end_days<D: LogDisk, R: Wait>(rt: &R, vans: Vans<D>, spare: D) -> Result<()> {
     let vans = match vans.rotate(rt, spare) {
         Ok(RotatedStore { store, spare: _ }) => store,
-        Err(
-            NotRotatedStore::Kept {
-                store,
-                spare: _,
-                cause: _,
-            },
-        ) => store,
-        Err(NotRotatedStore::Unsure { disk: _, spare: _ }) => bail!("the other drive failed"),
-        Err(NotRotatedStore::Uncleared { book: _, disk: _ }) => bail!("the first drive failed"),
-        Err(NotRotatedStore::Memory { book: _, spare: _ }) => bail!("no memory"),
+        Err(refused) => {
+            let (store, _spare, _cause) = refused.or_kept().map_err(|ended| ended.cause())?;
+            store
+        }
     };
     match vans.close().lost {
         Some(cell) => bail!("record {cell} isn't in the log, or may not be"),

@@ -7,7 +7,7 @@ use anyhow::{Context, Result};
 use crossbeam_channel::{Receiver, unbounded};
 use pisrakun::{
     Batch, Change, Fence, Fences, FileDisk, FileStore, Index, KdTrie, Lender, LogDisk, OpenedPair,
-    Point, Pool, Region, Replies, Service, Start, Tally,
+    Point, Pool, Region, Service, Start, Tally,
 };
 use std::alloc::Global;
 use std::sync::Wait;
@@ -22,19 +22,8 @@ struct Clerk<'q> {
 }
 
 impl<'q> Clerk<'q> {
-    fn keep(&mut self, batch: &Batch, replies: &Replies) -> Result<()> {
-        let mut place = replies.place.saturating_sub(replies.answers.len() as u64);
-        for (op, answer) in batch.ops().iter().zip(replies.answers.iter()) {
-            place = place.saturating_add(1);
-            if let Some(change) = Change::of(place, op, answer) {
-                self.changes.push(change)?;
-            }
-        }
-        Ok(())
-    }
-
     // Applies one batch after another until the queue has ended, each by a client from the pool.
-    fn work<R: Wait, I: Index, D: LogDisk, O: Start, L: Lender>(
+    fn work<R: Wait + AllocGlobal, I: Index, D: LogDisk, O: Start, L: Lender>(
         &mut self,
         rt: &R,
         pool: &Pool<'_, I, D, O, L>,
@@ -42,13 +31,13 @@ impl<'q> Clerk<'q> {
         let queue = self.queue;
         for batch in queue.iter(rt) {
             let replies = pool.enter(rt).apply(rt, &batch)?;
-            self.keep(&batch, &replies)?;
+            self.changes.extend(replies.changes(rt.alloc(), &batch)?)?;
         }
         Ok(())
     }
 }
 
-impl<'q, R: Wait> Service<R> for Clerk<'q> {
+impl<'q, R: Wait + AllocGlobal> Service<R> for Clerk<'q> {
     fn serve<I: Index, D: LogDisk, O: Start, L: Lender>(
         &mut self,
         rt: &R,
@@ -86,14 +75,14 @@ fn strip(id: u64, low: u32, high: u32) -> Fence {
 }
 
 // Lets three clerks empty the queue. Returns a tally of the fences after all that they changed.
-fn serve<R: Threads + Wait + Sync, D: LogDisk + Send>(
+fn serve<R: Threads + Wait + Sync + AllocGlobal, D: LogDisk + Send>(
     rt: &R,
     alloc: Global,
     couriers: &mut FileStore<KdTrie, D>,
     from: u64,
 ) -> Result<Tally> {
     let fences = Fences::of(alloc, &[strip(1, 0, 1 << 31), strip(2, 1 << 31, u32::MAX)])?;
-    let world = couriers.world(rt).ok().context("no memory")?;
+    let world = couriers.world(rt)?;
     let tally = Tally::over(alloc, &fences, &world).ok();
     let mut tally = tally.context("no memory")?;
     let queue = &reports(rt, alloc, from)?;
