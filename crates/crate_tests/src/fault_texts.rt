@@ -1,4 +1,4 @@
-//! The texts of the faults of fences, of a follower and of a drive.
+//! The texts of the faults of fences, of a follower and of a drive, and of memory that ran out.
 use cell_format::Cell;
 use disk_file::Reason;
 use fence_watch::{AlongFault, BadFences, WatchFault};
@@ -8,6 +8,7 @@ use std::alloc::Global;
 use std::fmt::Display;
 use std::io::ErrorKind;
 use std::process::Abort;
+use zorder::Memory;
 
 const BAD: &[(BadFences, &str)] = &[
     (BadFences::TooMany, "there are more than 256 fences"),
@@ -121,4 +122,9 @@ fn a_failed_call_of_a_drive_tells_its_reason(rt: HostRuntime) {
     for (kind, text) in FAILED {
         expect_text(&rt, rt.alloc(), &Reason::of(*kind), text);
     }
+}
+
+#[test]
+fn memory_that_ran_out_tells_so(rt: HostRuntime) {
+    expect_text(&rt, rt.alloc(), &Memory, "out of memory");
 }

@@ -17,7 +17,7 @@ use std::alloc::Global;
 use std::process::Abort;
 use std::sync::Wait;
 use std::thread::Threads;
-use store_client::{Batch, Client, MOST_BATCH, NotAdded, Work};
+use store_client::{Batch, Change, Client, MOST_BATCH, NotAdded, Work};
 use store_file::{OpenedStore, OverFile, open_store};
 use zorder::Point;
 
@@ -94,6 +94,56 @@ fn answers_each<I: Index, D: LogDisk, R: Wait + Abort>(rt: &R, alloc: Global) {
 #[test]
 fn a_batch_is_answered_operation_by_operation(rt: HostRuntime) {
     answers_each::<FlatIndex, MemDisk, _>(&rt, rt.alloc());
+}
+
+// What a batch has changed.
+fn changed<I: Index, D: LogDisk, O: Start, R: Wait>(
+    rt: &R,
+    alloc: Global,
+    client: &mut Client<'_, I, D, O>,
+    batch: &Batch,
+) -> Option<Vec<Change>>
+    ensures { Keeps client.old client.new }
+{
+    let replies = client.apply(rt, batch).ok()?;
+    replies.changes(alloc, batch).ok()
+}
+
+// What a batch has changed that comes after another call.
+fn changes_second<I: Index, D: LogDisk, R: Wait + Abort>(rt: &R, alloc: Global) -> Vec<Change> {
+    let batch = filled(rt, alloc);
+    let (store, pass) = new_store::<I, D>(rt, alloc);
+    let mut client = Client::new(&store, alloc, pass, 7);
+    let _ = client.put(rt, 9, HERE, 0);
+    let changes = changed(rt, alloc, &mut client, &batch);
+    let pass = client.into_pass();
+    store.close(pass);
+    changes.expect(rt, "no memory")
+}
+
+// A change of an object.
+fn change(place: u64, id: u64, before: Option<Point>, after: Option<Point>) -> Change {
+    Change {
+        place,
+        id,
+        before,
+        after,
+    }
+}
+
+#[test]
+fn a_batch_tells_what_it_has_changed(rt: HostRuntime) {
+    let (here, there) = (Some(HERE), Some(THERE));
+    let wanted = [
+        change(3, 1, None, here),
+        change(4, 1, here, there),
+        change(6, 2, None, here),
+        change(7, 2, here, None),
+        change(8, 2, None, there),
+        change(11, 1, there, None),
+    ];
+    let changes = changes_second::<FlatIndex, MemDisk, _>(&rt, rt.alloc());
+    assert_same!(rt; changes.as_slice(), wanted.as_slice());
 }
 
 // Puts of so many objects at points of their own.

@@ -1,5 +1,6 @@
-//! The texts of a refused call, an operation that is not added to a batch, a refused rotation, and a refused opening in
-//! memory or of two files.
+//! The texts of a refused call, a refused step of a book, an operation that is not added to a batch, a refused rotation, a
+//! close that may lack records, and a refused opening in memory or of two files.
+use commit_book::{BookFault, MoveFault};
 use pisrakun::NotInMemory;
 use recovery::OpenFault;
 use sessions::CallFault;
@@ -7,7 +8,7 @@ use std::alloc::Global;
 use std::fmt::Display;
 use std::process::Abort;
 use store_client::NotAdded;
-use store_file::{EitherCause, OpenCause, RotateCause};
+use store_file::{EitherCause, EndCause, OpenCause, RotateCause, SyncCause};
 
 const REFUSED: &[(CallFault, &str)] = &[
     (
@@ -22,6 +23,50 @@ const REFUSED: &[(CallFault, &str)] = &[
     (CallFault::LogFull, "the log is full"),
     (CallFault::Memory { place: None }, "out of memory"),
     (CallFault::Memory { place: Some(3) }, "out of memory"),
+];
+
+const NO_STEP: &[(BookFault, &str)] = &[
+    (
+        BookFault::Closed { cell: 3 },
+        "the append of record 3 has failed",
+    ),
+    (BookFault::Disk { cell: 3 }, "the drive failed at record 3"),
+    (BookFault::HistoryFull, "the history is full"),
+    (BookFault::LogFull, "the log is full"),
+    (BookFault::Memory, "out of memory"),
+    (
+        BookFault::Room {
+            cells: 16_000_001,
+            events: 9,
+        },
+        "no room for a split: the log has 16000001 records, and the history has 9 entries",
+    ),
+    (
+        BookFault::Splitting { number: 3 },
+        "split 3 of the leaf is open",
+    ),
+    (
+        BookFault::Deep,
+        "the leaf's name has too few bits left for children",
+    ),
+    (BookFault::NoLeaf, "no leaf has the name"),
+    (
+        BookFault::Stale { number: 3 },
+        "split 3 is no longer open, or its leaf has another base",
+    ),
+    (BookFault::NotOpen { number: 3 }, "split 3 is not open"),
+];
+
+const NOT_MOVED: &[(MoveFault, &str)] = &[
+    (
+        MoveFault::Closed { cell: 3 },
+        "the append of record 3 has failed",
+    ),
+    (MoveFault::Splitting { number: 3 }, "split 3 is open"),
+    (
+        MoveFault::Ahead { begun: 3 },
+        "3 splits have begun in the fresh log, more than in the book",
+    ),
 ];
 
 const NOT_ADDED: &[(NotAdded, &str)] = &[
@@ -94,6 +139,37 @@ const NOT_ROTATED: &[(RotateCause, &str)] = &[
     (RotateCause::Memory, "out of memory"),
 ];
 
+const NOT_SYNCED: &[(SyncCause, &str)] = &[
+    (
+        SyncCause::Closed { cell: 3 },
+        "the append of record 3 has failed",
+    ),
+    (SyncCause::Disk { cell: 3 }, "the drive failed at record 3"),
+    (SyncCause::HistoryFull, "the history is full"),
+    (SyncCause::Memory, "out of memory"),
+];
+
+const ENDED: &[(EndCause, &str)] = &[
+    (
+        EndCause::Unsynced {
+            cause: SyncCause::Disk { cell: 3 },
+        },
+        "the first file may lack changes: the drive failed at record 3",
+    ),
+    (
+        EndCause::Refused {
+            cause: RotateCause::InUse { len: 18 },
+        },
+        "the second file has 18 bytes",
+    ),
+    (EndCause::Unsure, "the second drive failed"),
+    (
+        EndCause::Uncleared,
+        "the first drive failed while its log was emptied",
+    ),
+    (EndCause::Memory, "out of memory"),
+];
+
 fn expect_text(rt: &impl Abort, alloc: Global, fault: &impl Display, text: &str) {
     let told = format!(in alloc; "{fault}").expect(rt, "it failed");
     assert_same!(rt; told.as_str(), text);
@@ -102,6 +178,20 @@ fn expect_text(rt: &impl Abort, alloc: Global, fault: &impl Display, text: &str)
 #[test]
 fn a_refused_call_tells_its_cause(rt: HostRuntime) {
     for (fault, text) in REFUSED {
+        expect_text(&rt, rt.alloc(), fault, text);
+    }
+}
+
+#[test]
+fn a_refused_step_of_a_book_tells_its_cause(rt: HostRuntime) {
+    for (fault, text) in NO_STEP {
+        expect_text(&rt, rt.alloc(), fault, text);
+    }
+}
+
+#[test]
+fn a_log_that_is_not_replaced_tells_its_cause(rt: HostRuntime) {
+    for (fault, text) in NOT_MOVED {
         expect_text(&rt, rt.alloc(), fault, text);
     }
 }
@@ -137,6 +227,20 @@ fn a_store_that_is_not_over_a_file_tells_its_cause(rt: HostRuntime) {
 #[test]
 fn a_store_that_is_not_in_memory_tells_its_cause(rt: HostRuntime) {
     for (cause, text) in NOT_IN_MEMORY {
+        expect_text(&rt, rt.alloc(), cause, text);
+    }
+}
+
+#[test]
+fn a_close_that_may_lack_records_tells_its_cause(rt: HostRuntime) {
+    for (cause, text) in NOT_SYNCED {
+        expect_text(&rt, rt.alloc(), cause, text);
+    }
+}
+
+#[test]
+fn a_store_that_is_not_rotated_tells_its_cause(rt: HostRuntime) {
+    for (cause, text) in ENDED {
         expect_text(&rt, rt.alloc(), cause, text);
     }
 }

@@ -1,4 +1,5 @@
 //! Rotations that are refused, after which the same store goes on. It is closed, and opened again with all its objects.
+//! Rotations that end a store.
 use crate::logs::{
     END, FILLED, GONE_ON, HEADER, PUT_1, PUT_2, PUT_4, disk_with, expect_bytes, failing_disk,
 };
@@ -6,7 +7,7 @@ use disk_mem::{DiskCall, Fail, MemDisk};
 use disk_trait::LogDisk;
 use flat_index::FlatIndex;
 use pisrakun::{
-    CallFault, ClosedStore, FileStore, Found, Index, NotRotatedStore, Point, PutReply, RotateCause,
+    CallFault, ClosedStore, EndCause, FileStore, Found, Index, Point, PutReply, RotateCause,
     RotatedStore, Stamped,
 };
 use std::alloc::Global;
@@ -42,16 +43,20 @@ fn kept<I: Index, D: LogDisk, R: Wait + Abort>(
         Leaves::Kept => store.rotate(rt, spare),
         Leaves::Anew => store.rotate_anew(rt, spare),
     };
-    match rotated {
-        Err(
-            NotRotatedStore::Kept {
-                store,
-                spare,
-                cause,
-            },
-        ) => (cause, store, spare),
-        _ => rt.panic("the store isn't kept"),
-    }
+    let refused = match rotated {
+        Err(refused) => refused,
+        Ok(RotatedStore { store, spare: _ }) => {
+            store.close();
+            rt.panic("the store is rotated")
+        }
+    };
+    let told = refused.cause();
+    let (store, spare, cause) = match refused.or_kept() {
+        Ok(kept) => kept,
+        Err(_ended) => rt.panic("the store isn't kept"),
+    };
+    assert_same!(rt; told, EndCause::Refused { cause });
+    (cause, store, spare)
 }
 
 // Two refused rotations of a store in session 9, and calls before, between and behind them. Returns the causes, where the
@@ -164,4 +169,47 @@ fn a_closed_store_is_kept_and_stays_closed(rt: HostRuntime) {
         assert_same!(rt; lost, Some(1));
         assert_same!(rt; spare.moments(), 0);
     }
+}
+
+// The causes of a rotation that ends a store: of the refusal, and of what is left.
+fn ended<I: Index, D: LogDisk, R: Wait + Abort>(
+    rt: &R,
+    alloc: Global,
+    disk: D,
+    spare: D,
+) -> [EndCause; 2] {
+    let (store, _) = opened::<I, D>(rt, alloc, disk);
+    let refused = match store.rotate(rt, spare) {
+        Err(refused) => refused,
+        Ok(RotatedStore { store, spare: _ }) => {
+            store.close();
+            rt.panic("the store is rotated")
+        }
+    };
+    let cause = refused.cause();
+    match refused.or_kept() {
+        Err(ended) => [cause, ended.cause()],
+        Ok((store, _spare, _cause)) => {
+            store.close();
+            rt.panic("the store is kept")
+        }
+    }
+}
+
+const CUT_FAILS: &[Fail] = &[Fail {
+    call: DiskCall::Cut,
+    number: 1,
+}];
+
+#[test]
+fn a_store_that_ended_in_a_rotation_tells_its_cause(rt: HostRuntime) {
+    let alloc = rt.alloc();
+    let disk = disk_with(&rt, alloc, FILLED);
+    let spare = failing_disk(&rt, alloc, &[], FAILING);
+    let causes = ended::<FlatIndex, MemDisk, _>(&rt, alloc, disk, spare);
+    assert_same!(rt; causes, [EndCause::Unsure, EndCause::Unsure]);
+    let disk = failing_disk(&rt, alloc, FILLED, CUT_FAILS);
+    let spare = disk_with(&rt, alloc, &[]);
+    let causes = ended::<FlatIndex, MemDisk, _>(&rt, alloc, disk, spare);
+    assert_same!(rt; causes, [EndCause::Uncleared, EndCause::Uncleared]);
 }

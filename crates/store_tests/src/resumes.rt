@@ -22,7 +22,7 @@ fn book_left<I: Index, D: LogDisk, R: Wait + Abort>(
 ) -> Book<I, D>
     ensures none { result.entries ≡ [] }
     ensures world { HasWorld result }
-    ensures starts { StartsAs D.drive ⊥ (λ start waits. waits ≡ false) result.log }
+    ensures starts { StartsAs D.drive ⊥ (λ start waits moves. (waits ≡ false) × (moves ≡ false)) result.log }
 {
     let (store, pass) = filled::<I, D, R>(rt, alloc, disk);
     let store = ObjectStore::from_parts(alloc, store, pass);
