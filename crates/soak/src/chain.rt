@@ -4,6 +4,7 @@ ghost use Rattle.store_client.specs.Caller.{Keeps};
 use crate::dice::Dice;
 use crate::last::is_there;
 use crate::plan::Plan;
+use commit_book::BookFault;
 use disk_trait::LogDisk;
 use index_layer::Index;
 use plain_list::{Answer, Stamped};
@@ -27,11 +28,13 @@ pub enum Broken {
     Lost { done: u64, id: u64 },
     #[error("change {number} wasn't told where its object was")]
     Told { number: u64 },
+    #[error("a sync was refused: {0}")]
+    Unsynced(BookFault),
 }
 
 /// A thread that changes objects of its own, one after the other and then again from the first one on. Of two calls one
-/// makes a change, and the other one makes several in a batch. Before its first change the thread finds out how many
-/// changes were made.
+/// makes a change, and the other one makes several in a batch. At the end of each round it syncs. Before its first change
+/// the thread finds out how many changes were made.
 #[derive(Drop)]
 pub struct Chain {
     alloc: Global,
@@ -252,6 +255,19 @@ impl Chain {
         }
     }
 
+    // Has its changes written, if records wait.
+    fn sync<I: Index, D: LogDisk, O: Start, R: Wait>(
+        &mut self,
+        rt: &R,
+        client: &mut Client<'_, I, D, O>,
+    )
+        ensures { Keeps client.old client.new }
+    {
+        if let Err(fault) = client.sync(rt) {
+            self.broken = Some(Broken::Unsynced(fault));
+        }
+    }
+
     /// How many objects it has.
     pub fn objects(&self) -> u64 {
         self.done.min(self.plan.own())
@@ -270,10 +286,13 @@ impl<R: Wait> Work<R> for Chain {
         for call in 0..self.plan.each() {
             let left = end.saturating_sub(self.done);
             if left == 0 || self.broken.is_some() {
-                return;
+                break;
             }
             let most = if call % 2 == 0 { 1 } else { BATCH };
             self.call(rt, client, left.min(most));
+        }
+        if self.broken.is_none() {
+            self.sync(rt, client);
         }
     }
 }

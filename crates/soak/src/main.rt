@@ -1,33 +1,34 @@
 //! Runs a store for long, in memory or over two files, and checks its answers.
 //!
-//! `soak CALLS THREADS OBJECTS SEED ROUND [quiet | files ONE TWO | chain ONE TWO | turns ONE TWO]`: the run makes CALLS
-//! calls (by default 20,000,000) in THREADS threads (at most 4) on OBJECTS objects (by default 100,000). The calls are
-//! puts, moves (some of them late), removals, finds, boxes and nears, as the seed decides. After each ROUND calls (by
-//! default 3,900,000) the threads meet, and the calls of the round are checked in the order of their places. Each place
-//! must be that of one call. A plain map of this program makes the changes, and each answer must be the answer of the map
-//! at that place. In memory the same store goes on for all rounds.
+//! `soak CALLS THREADS OBJECTS SEED ROUND [quiet | files ONE TWO | chain ONE TWO | waits ONE TWO | turns ONE TWO]`:
+//! the run makes CALLS calls (by default 20,000,000) in THREADS threads (at most 4) on OBJECTS objects (by default
+//! 100,000). The calls are puts, moves (some of them late), removals, finds, boxes and nears, as the seed decides.
+//! After each ROUND calls (by default 3,900,000) the threads meet, and the calls of the round are checked in the order
+//! of their places. Each place must be that of one call. A plain map of this program makes the changes, and each
+//! answer must be the answer of the map at that place. In memory the same store goes on for all rounds.
 //!
 //! A check of a box or a near goes over all objects. So if there are n objects, it checks one in n / 100 of these
 //! queries. At the end it looks up all objects. A difference is reported, and the run ends with status 1.
 //!
-//! At the end of each round the run takes a view, and holds it until it is 10,000 calls old. After each round it compares
-//! all views that it holds with what the map had when they were taken: how many objects there were, how many were in a
-//! box and which, and which were the nearest of a point.
+//! At the end of each round the run takes a view, and holds it until it is 10,000 calls old. After each round it
+//! compares all views that it holds with what the map had when they were taken: how many objects there were, how many
+//! were in a box and which, and which were the nearest of a point.
 //!
-//! With `files` the store has a log in one of these two files, which must have no objects. After each round the store is
-//! rotated: it continues over a fresh log in the other file. Each second rotation builds new leaves. The run prints each
-//! rotation with its time. A run prints how many boxes and nears were checked, and how many objects there are at the end.
-//! With `quiet` it prints only what doesn't depend on the schedule.
+//! With `files` the store has a log in one of these two files, which must have no objects. After each round the store
+//! is rotated: it continues over a fresh log in the other file. Each second rotation builds new leaves. The run prints
+//! each rotation with its time. A run prints how many boxes and nears were checked, and how many objects there are at
+//! the end. With `quiet` it prints only what doesn't depend on the schedule.
 //!
 //! With `chain` the run continues with what it finds in these files. Each thread moves objects of its own to new
-//! positions, one after the other. Every second call is a batch of up to eight changes. The number of a change determines
-//! the change. So the objects must be exactly where a
-//! number of first changes of each thread leaves them. The run prints how many changes it found. After about ROUND
-//! changes it prints how many were made, and rotates the store. If you kill the run, the next start reports what is
-//! there. `tools/soak` drives it.
+//! positions, one after the other. Every second call is a batch of up to eight changes. The number of a change
+//! determines the change. So the objects must be exactly where a number of first changes of each thread leaves them.
+//! The run prints how many changes it found. After about ROUND changes it prints how many were made, and rotates the
+//! store. If you kill the run, the next start reports what is there. `tools/soak` drives it. With `waits` the records
+//! of these changes wait for a sync. Each thread syncs at the end of a round, and the run prints how many changes were
+//! made after that.
 //!
-//! With `turns` the run puts OBJECTS objects, and then rotates the store CALLS times, with the time of each rotation. Each
-//! second one builds new leaves.
+//! With `turns` the run puts OBJECTS objects, and then rotates the store CALLS times, with the time of each rotation.
+//! Each second one builds new leaves.
 #![tactic(auto)]
 
 ghost use Rattle.std.specs.Prelude.{◌≤◌, IfOk};
@@ -52,7 +53,7 @@ use disk_trait::LogDisk;
 use judge::Judge;
 use kd_trie::KdTrie;
 use plan::Plan;
-use rounds::chain_over_files;
+use rounds::{chain_at_sync, chain_over_files};
 use sessions::Store;
 use soak::{SoakPass, play, play_over_files};
 use std::alloc::Global;
@@ -65,7 +66,7 @@ use std::process::ExitCode;
 use std::rt::{Clock, Env};
 use std::sync::Wait;
 use std::thread::Threads;
-use store_file::{OpenedEither, OverFile, open_either};
+use store_file::{OpenedEither, OverFile, open_either, open_either_at_sync};
 use trouble::Trouble;
 use turns::turn_over_files;
 
@@ -105,6 +106,7 @@ enum Mode {
     Quiet,
     Files,
     Chain,
+    Waits,
     Turns,
 }
 
@@ -119,6 +121,7 @@ fn mode_of(word: Option<String>) -> Mode {
         None => Mode::Memory,
         Some("files") => Mode::Files,
         Some("chain") => Mode::Chain,
+        Some("waits") => Mode::Waits,
         Some("turns") => Mode::Turns,
         Some(_) => Mode::Quiet,
     }
@@ -159,6 +162,31 @@ fn open_files<'n, D: LogDisk>(
 {
     let opened = open_either::<KdTrie, D>(alloc, first, one, second, two, BUCKET);
     opened.map_err(|refused| Trouble::Open(refused.cause))
+}
+
+// Chains over a store in one of two files, whose records wait for a sync.
+fn chain_in_files<R: Threads + Wait + Sync + AllocGlobal + Print, D: LogDisk + Send>(
+    rt: &R,
+    plan: Plan,
+    drives: (D, D),
+    names: (&str, &str),
+) -> Result<(), Trouble> {
+    let alloc = rt.alloc();
+    let ((first, second), (one, two)) = (drives, names);
+    match open_either_at_sync::<KdTrie, D>(alloc, first, one, second, two, BUCKET) {
+        Ok(
+            OpenedEither {
+                store,
+                pass,
+                points,
+                latest: _,
+                records: _,
+                spare,
+                which: _,
+            },
+        ) => chain_at_sync(rt, alloc, store, pass, spare, points, plan),
+        Err(refused) => Err(Trouble::Open(refused.cause)),
+    }
 }
 
 // Runs over a store in one of two files. A chain continues from the objects that are there. Otherwise there must be
@@ -210,7 +238,12 @@ fn play_as<R: Threads + Wait + Sync + AllocGlobal + Clock + Print, D: LogDisk + 
     let (Some(one), Some(two)) = (words.next(), words.next()) else {
         return Err(Trouble::Words);
     };
-    play_in_files(rt, plan, drives, (one.as_str(), two.as_str()), mode)
+    let names = (one.as_str(), two.as_str());
+    if mode == Mode::Waits {
+        chain_in_files(rt, plan, drives, names)?;
+        return Ok(None);
+    }
+    play_in_files(rt, plan, drives, names, mode)
 }
 
 fn run<R: Threads + Wait + Sync + AllocGlobal + Clock + Env + Print, D: LogDisk + Send>(

@@ -13,7 +13,7 @@ use std::alloc::Global;
 use std::io::{self, Print};
 use std::sync::Wait;
 use std::thread::Threads;
-use store_file::{OverFile, Rotated};
+use store_file::{AtSync, OverFile, Rotated, rotate_at_sync};
 
 // The chains of four threads, if there is memory for them.
 fn chains_of(alloc: Global, plan: Plan) -> Option<Vec<Chain>>
@@ -59,6 +59,48 @@ pub fn chain_over_files<I: Index + Send, D: LogDisk + Send, R: Threads + Wait + 
         store = next;
         pass = whole;
         spare = left;
+    }
+    store.close(pass);
+    done?;
+    Ok(())
+}
+
+/// The same with a store whose records wait. A round ends with a sync of each thread, and only then are its changes
+/// printed.
+pub fn chain_at_sync<I: Index + Send, D: LogDisk + Send, R: Threads + Wait + Sync + Print>(
+    rt: &R,
+    alloc: Global,
+    mut store: Store<I, D, AtSync>,
+    mut pass: SoakPass<I, D, AtSync>,
+    mut spare: D,
+    points: u64,
+    plan: Plan,
+) -> Result<(), Trouble>
+    requires { IsWhole store pass }
+{
+    let mut crew = chains_of(alloc, plan);
+    pass = play_round(rt, alloc, &store, pass, &mut crew);
+    let mut done = look_first(rt, &crew, points);
+    for _ in 0..u64::MAX {
+        if !matches!(done, Ok(false)) {
+            break;
+        }
+        let back = play_round(rt, alloc, &store, pass, &mut crew);
+        done = look(rt, "done", &crew);
+        match rotate_at_sync(alloc, store, back, spare) {
+            Ok(
+                Rotated {
+                    store: next,
+                    pass: whole,
+                    spare: left,
+                },
+            ) => {
+                store = next;
+                pass = whole;
+                spare = left;
+            }
+            Err(ended) => return Err(Trouble::Ended(ended.cause)),
+        }
     }
     store.close(pass);
     done?;

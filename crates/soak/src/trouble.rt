@@ -4,7 +4,7 @@ use plain_list::Op;
 use sessions::CallFault;
 use std::alloc::AllocError;
 use std::io;
-use store_file::{EitherCause, RotateCause};
+use store_file::{EitherCause, EndCause, RotateCause};
 use thiserror::Error;
 use zorder::Memory;
 
@@ -29,6 +29,8 @@ pub enum Trouble {
     NotEmptied,
     #[error("the store was rotated, but there was no memory to go on")]
     NoLock,
+    #[error("the store wasn't rotated: {0}")]
+    Ended(EndCause),
     #[error("call {place}, {op:?}, wasn't told what it should be")]
     Answer { place: u64, op: Op },
     #[error("nobody was told of call {place} of the history")]
