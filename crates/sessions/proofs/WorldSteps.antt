@@ -1,5 +1,5 @@
 -- The objects behind a lock are a world.
-use Rattle.std.proofs.Common.{◌≡◌, ℕ, ◌+◌, Bool, true, false, cond, List, [], ◌∷◌, ◌++◌, Option, Some, None, sym, subst, ap, ◌∙◌}
+use Rattle.std.proofs.Common.{◌≡◌, ℕ, ◌+◌, Bool, true, false, cond, List, [], ◌∷◌, ◌++◌, Option, Some, None, refl, sym, subst, ap, ◌∙◌}
 use Rattle.std.specs.Prelude.{⊤, Ok, Err, Result}
 use Rattle.plain_list.specs.declared.ops.Op.{Op}
 use Rattle.plain_list.specs.declared.entries.Entry.{Entry}
@@ -31,7 +31,7 @@ use Rattle.commit_book.proofs.BookSteps.{query_keeps}
 use Rattle.commit_book.specs.declared.book.Done.{Done}
 use Rattle.commit_book.specs.declared.book.Snapshot.{Snapshot}
 use Rattle.kept_log.specs.KeptView.{KeptView}
-use Rattle.kept_log.specs.Journal.{IsSinceIn, IsMovedFromIn, written_in}
+use Rattle.kept_log.specs.Journal.{IsSinceIn, IsMovedFromIn, moves_in, written_in}
 use Rattle.split_log.specs.LogView.{LogView}
 use Rattle.recovery.specs.declared.seen.Seen.{Seen}
 use Rattle.commit_book.specs.IsBook.{SameOrigin, SameMoved}
@@ -181,6 +181,26 @@ starts_moved drive unlogged Is (Some old) None from starts = absurd from
 -- so it is as every book behind a lock
 pub shared_still : {D : Type 0} (drive : D → Drive) (unlogged : Type 0) (Is : Drive → Bool → Bool → Type 0) (old new : BookView D) → SameOrigin old new → StartsAs drive unlogged Is old.log → HasWorld new → IsShared drive unlogged Is new
 shared_still drive unlogged Is old new same starts has = record { has = has; start = starts_still drive unlogged Is old.log new.log same.log starts }
+
+-- no call changes whether a fresh log may replace the log
+since_moves : {D : Type 0} (old new : Option (KeptView D)) → IsSinceIn old new → moves_in new ≡ moves_in old
+since_moves None None since = refl
+since_moves (Some old) (Some new) since = since.moves
+since_moves None (Some new) since = absurd since
+since_moves (Some old) None since = absurd since
+
+moved_moves : {D : Type 0} (old new : Option (KeptView D)) → IsMovedFromIn old new → moves_in new ≡ moves_in old
+moved_moves None None from = refl
+moved_moves (Some old) (Some new) from = from.moves
+moved_moves None (Some new) from = absurd from
+moved_moves (Some old) None from = absurd from
+
+-- so if a second drive is kept, one still may, after a call and after a fresh log
+pub spare_still : {D S : Type 0} (b old new : BookView D) → old ≡ b → SameOrigin old new → (S → moves_in b.log ≡ true) → S → moves_in new.log ≡ true
+spare_still b old new is same may spare = since_moves old.log new.log same.log ∙ ap (λ (b : BookView _). moves_in b.log) is ∙ may spare
+
+pub spare_moved : {D S : Type 0} (b old new : BookView D) → old ≡ b → SameMoved old new → (S → moves_in b.log ≡ true) → S → moves_in new.log ≡ true
+spare_moved b old new is same may spare = moved_moves old.log new.log same.log ∙ ap (λ (b : BookView _). moves_in b.log) is ∙ may spare
 
 -- a fresh log leaves the entries
 pub moved_entries : {D E : Type 0} {A : Type 0} (w : ℕ) (seen : Seen) (log : LogView D) (start : D) (old new : BookView D) (Q : E → Type 0) (r : Result A E) → IfOk r (λ _. new ≡ with_fresh_log w seen log start old)

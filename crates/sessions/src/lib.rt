@@ -15,6 +15,10 @@
 //! | `content`, `anew` | copy the objects with the names of the leaves, or with an index with fresh leaves |
 //! | `hold`, `release` | take the lock and the book, and give both back: for a call that replaces the log by a fresh one |
 //! | `close` | returns the book, whose history is what the last pass has seen |
+//! | `with_spare`, `close_with_spare` | begin and end a store that keeps the drive of a second file beside the book |
+//! | `put_spare`, `take_spare` | keep that drive, and return it, while a caller holds the book |
+//!
+//! Contracts see the book without the second drive. They say that the log may be replaced if there is one.
 //!
 //! Each refusal has its cause over the history that the pass saw under the lock. The log of a returned book continues
 //! from the opening that the store began with (`Start`).

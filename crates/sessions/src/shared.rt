@@ -1,5 +1,5 @@
 //! A book behind a lock.
-ghost use Rattle.std.specs.Prelude.{◌≡◌, ◌+◌, ◌<◌, ◌≤◌, ◌^◌, length, true, Some, None, IfOk, IfErr, OnOk};
+ghost use Rattle.std.specs.Prelude.{◌≡◌, ◌+◌, ◌<◌, ◌≤◌, ◌^◌, length, true, Some, None, IfOk, IfErr, IfSome, OnOk};
 ghost use Rattle.std.specs.List.{AllByRecursion};
 ghost use Rattle.std.specs.Result.{result_err};
 ghost use Rattle.zorder.specs.Key.{IsPoint};
@@ -50,19 +50,22 @@ pub struct WorldAt {
 pub struct SharedBook<I: Index, D: LogDisk, O: Start> {
     /// Behind a pointer, so that only the pointer moves out of the lock and back.
     book: Box<Book<I, D>>,
+    /// The drive of a second file, over which the store may continue. Contracts see the book alone.
+    spare: Option<D>,
     start: PhantomData<O>,
 }
 
 impl<I: Index, D: LogDisk, O: Start> Model for SharedBook<I, D, O> {
+    ghost use Rattle.std.specs.Prelude.{◌≡◌, true, is_some};
+    ghost use Rattle.kept_log.specs.Journal.{moves_in};
     ghost use Rattle.commit_book.specs.BookView.{BookView};
+    ghost use Rattle.sessions.specs.Shared.{IsShared};
 
     ghost Value = { BookView D };
 
-    ghost use Rattle.sessions.specs.Shared.{IsShared};
-
     ghost view = { λ s. s.book.value };
 
-    ghost invariant = { λ s. IsShared D.drive O.unlogged O.is s.book.value };
+    ghost invariant = { λ s. IsShared D.drive O.unlogged O.is s.book.value × (is_some s.spare ≡ true → moves_in s.book.value.log ≡ true) };
 }
 
 impl<I: Index, D: LogDisk, O: Start> Held for SharedBook<I, D, O> {
@@ -92,6 +95,7 @@ impl<I: Index, D: LogDisk, O: Start> SharedBook<I, D, O> {
         match Box::new(alloc, book) {
             Ok(book) => Ok(SharedBook {
                 book,
+                spare: None,
                 start: PhantomData,
             }),
             Err(AllocFailed { value }) => Err(value),
@@ -103,11 +107,33 @@ impl<I: Index, D: LogDisk, O: Start> SharedBook<I, D, O> {
         ensures start { StartsAs D.drive O.unlogged O.is result.log }
         ensures world { HasWorld result }
     {
-        Box::into_inner(self.book)
+        let (book, _spare) = self.into_parts();
+        book
+    }
+
+    /// The book, and the drive of the second file, if there is one.
+    pub(crate) fn into_parts(self) -> (Book<I, D>, Option<D>)
+        ensures book { result.0 ≡ self }
+        ensures start { StartsAs D.drive O.unlogged O.is result.0.log }
+        ensures world { HasWorld result.0 }
+    {
+        let SharedBook {
+            book,
+            spare,
+            start: _,
+        } = self;
+        (Box::into_inner(book), spare)
+    }
+
+    /// What is known of the drive over which the log was opened holds. This function only says so to proofs.
+    pub(crate) fn started(&self)
+        ensures { StartsAs D.drive O.unlogged O.is self.now.log }
+    {
+        let _start = &self.start;
     }
 
     /// As the book's call of this name.
-    pub(crate) fn room(&self) -> Room
+    pub fn room(&self) -> Room
         ensures room { result ≡ room_of self.now }
         ensures book { IsBook D.drive I.WIDTH self.now }
     {
@@ -335,6 +361,23 @@ impl<I: Index, D: LogDisk, O: Start> SharedBook<I, D, O> {
 }
 
 impl<I: Index, D: LogDisk, O: Start> SharedBook<I, D, O> {
+    /// Keeps the drive of a second file, over which the store may continue. Returns the drive that was kept before, if
+    /// there was one.
+    pub fn put_spare(&mut self, spare: D) -> Option<D>
+        requires { moves_in self.old.log ≡ true }
+        ensures { self.new ≡ self.old }
+    {
+        self.spare.replace(spare)
+    }
+
+    /// Returns the drive of the second file, if there is one, and keeps it no longer.
+    pub fn take_spare(&mut self) -> Option<D>
+        ensures same { self.new ≡ self.old }
+        ensures moves { IfSome result (λ _. moves_in self.old.log ≡ true) }
+    {
+        self.spare.take()
+    }
+
     /// As the book's call of this name.
     pub fn check_move(&self) -> Result<(), BookFault>
         ensures { IsRefusedBy IsNoFault (may_move_refusal I.WIDTH self.now) result }

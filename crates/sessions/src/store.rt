@@ -1,6 +1,7 @@
 //! A book behind a lock, and calls on it.
 ghost use Rattle.std.specs.Prelude.{◌≡◌, [], true, false, IfOk, IfErr};
 ghost use Rattle.plain_list.specs.World.{IsWorld};
+ghost use Rattle.kept_log.specs.Journal.{moves_in};
 ghost use Rattle.sessions.specs.Shared.{origin_of, StartsAs};
 ghost use Rattle.sessions.specs.Steps.{all_parts, MayGive, WasTaken, has_entry, has_given};
 
@@ -65,6 +66,37 @@ impl<I: Index, D: LogDisk, O: Start> Store<I, D, O> {
         match BookLock::new(alloc, shared) {
             Ok((lock, pass)) => Ok((Store { lock }, pass)),
             Err(shared) => Err(shared.into_book()),
+        }
+    }
+
+    /// As `new`, with the drive of a second file, over which the store may continue. If memory runs out, the call returns
+    /// the book and the drive.
+    pub fn with_spare<R: Wait>(
+        rt: &R,
+        alloc: Global,
+        book: Book<I, D>,
+        spare: D,
+    ) -> Result<(Store<I, D, O>, Pass<SharedBook<I, D, O>>), (Book<I, D>, D)>
+        requires entries { book.entries ≡ [] }
+        requires world { IsWorld book.opening.world }
+        requires start { StartsAs D.drive O.unlogged O.is book.log }
+        requires moves { moves_in book.log ≡ true }
+        ensures store { IfOk result (λ r. r.1 ≡ record {
+          lock = r.0;
+          seen = [];
+          own = [];
+          origin = origin_of D.drive book;
+          parts = all_parts;
+          holds = false;
+        }) }
+        ensures back { IfErr result (λ r. (r.0 ≡ book) × (r.1 ≡ spare)) }
+    {
+        match Store::new(alloc, book) {
+            Ok((store, mut pass)) => {
+                store.keep_spare(rt, &mut pass, spare);
+                Ok((store, pass))
+            }
+            Err(book) => Err((book, spare)),
         }
     }
 

@@ -1,6 +1,7 @@
 //! The lock, held by a caller while a fresh log replaces the log.
 ghost use Rattle.std.specs.Prelude.{◌≡◌, true, false};
-ghost use Rattle.sessions.specs.Shared.{origin_of};
+ghost use Rattle.sessions.specs.Runs.{HasLooked};
+ghost use Rattle.sessions.specs.Shared.{StartsAs, moves_of, origin_of};
 ghost use Rattle.sessions.specs.Steps.{MayGive, WasTaken, has_given};
 
 use super::Store;
@@ -17,9 +18,12 @@ impl<I: Index, D: LogDisk, O: Start> Store<I, D, O> {
     pub fn hold<R: Wait>(&self, rt: &R, pass: &mut Pass<SharedBook<I, D, O>>) -> SharedBook<I, D, O>
         requires lock { pass.old.lock ≡ self.now }
         requires off { pass.old.holds ≡ false }
-        ensures { WasTaken D.drive result pass.old pass.new }
+        ensures taken { WasTaken D.drive result pass.old pass.new }
+        ensures start { StartsAs D.drive O.unlogged O.is result.log }
     {
-        self.take(rt, pass)
+        let book = self.take(rt, pass);
+        book.started();
+        book
     }
 
     /// Gives back a book that `hold` returned, and the lock. `grown` says whether the book has one more entry since then.
@@ -36,5 +40,17 @@ impl<I: Index, D: LogDisk, O: Start> Store<I, D, O> {
         ensures { pass.new ≡ has_given pass.old grown book.entries }
     {
         self.put_back(pass, book, grown);
+    }
+
+    /// Keeps the drive of a second file beside the book. A drive that was kept before is dropped.
+    pub(crate) fn keep_spare<R: Wait>(&self, rt: &R, pass: &mut Pass<SharedBook<I, D, O>>, spare: D)
+        requires lock { pass.old.lock ≡ self.now }
+        requires off { pass.old.holds ≡ false }
+        requires moves { moves_of pass.old.origin ≡ true }
+        ensures { HasLooked pass.old pass.new }
+    {
+        let mut book = self.take(rt, pass);
+        let _before = book.put_spare(spare);
+        self.put_back(pass, book, false);
     }
 }

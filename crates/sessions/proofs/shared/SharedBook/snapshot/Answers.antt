@@ -10,16 +10,18 @@ use Rattle.commit_book.specs.declared.book.Snapshot.{Snapshot}
 use Rattle.commit_book.specs.Answers.{Notes}
 use Rattle.commit_book.specs.IsBook.{AreBooks}
 use Rattle.commit_book.specs.Refusals.{IsRefusedBy, IsMemory, call_refusal}
-use Rattle.sessions.proofs.WorldSteps.{shared_still, snapshot_world, snapshot_stands}
+use Rattle.sessions.proofs.WorldSteps.{shared_still, spare_still, snapshot_world, snapshot_stands}
 use Rattle.sessions.proofs.shared.SharedBook.snapshot.Goals as goal
 
 pub invariant_of-self : goal.invariant_of-self
 invariant_of-self g c =
     let m = c.deref_mut.result.now in
     let held : IsShared g.D.LogDisk.drive g.O.Start.unlogged g.O.Start.is m =
-    subst (λ (b : BookView g.row.D.Denot). IsShared g.D.LogDisk.drive g.O.Start.unlogged g.O.Start.is b) (sym c.deref_mut.ensures.value) c.self.invariant in
-    shared_still g.D.LogDisk.drive g.O.Start.unlogged g.O.Start.is m c.snapshot.new.self c.snapshot.ensures.book.origin held.start
-    (snapshot_world m c.snapshot.new.self c.args.session c.args.row c.args.op.now c.snapshot.result c.snapshot.ensures.ok c.snapshot.ensures.err c.snapshot.ensures.book.origin.opening c.told.ensures held.has)
+    subst (λ (b : BookView g.row.D.Denot). IsShared g.D.LogDisk.drive g.O.Start.unlogged g.O.Start.is b) (sym c.deref_mut.ensures.value) c.self.invariant.0 in (
+      shared_still g.D.LogDisk.drive g.O.Start.unlogged g.O.Start.is m c.snapshot.new.self c.snapshot.ensures.book.origin held.start
+          (snapshot_world m c.snapshot.new.self c.args.session c.args.row c.args.op.now c.snapshot.result c.snapshot.ensures.ok c.snapshot.ensures.err c.snapshot.ensures.book.origin.opening c.told.ensures held.has),
+      spare_still _ m c.snapshot.new.self c.deref_mut.ensures.value c.snapshot.ensures.book.origin c.self.invariant.1,
+    )
 
 pub returns-clause-index : goal.returns-clause-index
 returns-clause-index g c =
