@@ -1,6 +1,5 @@
 -- What the next opening of a file finds, after a store over it was closed.
 use Rattle.std.proofs.Common.{◌≡◌, inl, inr, ◌∙◌, ℕ, ◌+◌, ◌*◌, ◌≤◌, Bool, true, false, List, [], ◌∷◌, ◌++◌, length, Option, Some, None, is_some, cond, refl, sym, ap, subst, arith, length-append}
-use mathlib.Core.Bool.{true≢false}
 use Rattle.std.proofs.lemmas.List.{append-nil}
 use Rattle.std.proofs.lemmas.Option.{same_Some}
 use Rattle.atomic_table.specs.Seated.{TableId}
@@ -13,7 +12,7 @@ use Rattle.plain_list.specs.declared.entries.Entry.{Entry}
 use Rattle.plain_list.specs.declared.entries.Entry.TheVariants as entry
 use Rattle.plain_list.specs.World.{World}
 use Rattle.plain_list.specs.Answer.{answer_of, after_of, is_change, changed}
-use Rattle.plain_list.specs.State.{State, empty_state, at_rest, step, is_legal_history}
+use Rattle.plain_list.specs.State.{State, empty_state, at_rest, step}
 use Rattle.plain_list.proofs.Histories.{state_after-world}
 use Rattle.plain_list.specs.History.{world_after, failed_cell}
 use Rattle.split_log.specs.LogText.{IsLog, HoldsCells, front_of}
@@ -21,9 +20,8 @@ use Rattle.split_log.proofs.Cells.{length-front_of}
 use Rattle.split_log.proofs.Unique.{holds-same}
 use Rattle.log_state.specs.Recovers.{IsLegalCells, state_of, cells_after}
 use Rattle.log_state.specs.Changes.{cells_of, change_cells}
-use Rattle.log_state.proofs.LegalBehind.{legal_behind, rest_behind}
 use Rattle.log_state.proofs.LegalCells.{cells_after-append}
-use Rattle.kept_log.specs.Kept.{RecoversTo, renewed_state}
+use Rattle.kept_log.specs.Kept.{renewed_state}
 use Rattle.book_lock.specs.Pass.{Known}
 use Rattle.book_lock.specs.declared.origin.Origin.{Origin}
 use Rattle.book_lock.specs.declared.origin.LogStart.{LogStart}
@@ -32,6 +30,7 @@ use Rattle.store_file.specs.Files.{FindsCells}
 use Rattle.store_file.specs.Opened.{OpensStore}
 use Rattle.store_file.specs.Closed.{ClosesStore}
 use Rattle.store_file.specs.Again.{GoesOnFrom}
+use Rattle.store_file.proofs.KeptCells.{cells-kept, legal-kept, some_of, state-kept, text-kept, world-kept}
 
 same_either : {A : Type 0} (b : Bool) (x : A) → cond b x x ≡ x
 same_either true x = refl
@@ -80,12 +79,8 @@ finds-text w cells found drive log (inl small) = small.1 ∙ no-more cells (omeg
 finds-text w cells found drive log (inr long) = holds-same long.1.version newest w found cells log.bytes long.1.holds (text-holds w cells drive log)
 
 -- What is found in a crash image of the text of cells is these cells.
-finds-image : (w : ℕ) (cells found : List Cell) (drive : Drive) (log : IsLog w cells drive) (image : List ℕ) → drive.images image → FindsCells w found image → found ≡ cells
+pub finds-image : (w : ℕ) (cells found : List Cell) (drive : Drive) (log : IsLog w cells drive) (image : List ℕ) → drive.images image → FindsCells w found image → found ≡ cells
 finds-image w cells found drive log image left finds = finds-text w cells found drive log (subst (λ (c : List ℕ). FindsCells w found c) (log.durable image left) finds)
-
-some_of : (o : Option (List ℕ)) → is_some o ≡ true → (bytes : List ℕ) × (o ≡ Some bytes)
-some_of None is = absurd (true≢false (sym is))
-some_of (Some bytes) is = (bytes, refl)
 
 module _ {D E : Type 0} (drive : D → Drive) (other : E → Drive) (w bucket size : ℕ) (file also : List ℕ) (old : Drive) (Is : Drive → Type 0) (lock key : TableId) (pass last next : Known) (points number : ℕ) (latest newer : Option ℕ) (records more : ℕ)
     (disk : D) (opened : OpensStore drive w bucket file old lock pass points latest records) (one : last.origin ≡ pass.origin) (told : is_some old.bytes ≡ true)
@@ -120,39 +115,28 @@ module _ {D E : Type 0} (drive : D → Drive) (other : E → Drive) (w bucket si
 -- A store that was closed, whatever it began from: the opening of a file, or a rotation after others.
 module _ {D : Type 0} (drive : D → Drive) (w : ℕ) (Is : Drive → Type 0) (last : Known) (disk : D) (closed : ClosesStore drive w Is last disk)
     (told : is_some (drive disk).bytes ≡ true) (good : failed_cell last.seen ≡ None) where
-  -- The bytes of its log at the beginning, and the cells that these bytes recover to.
-  pub bytes-first : (bytes : List ℕ) × ((drive closed.log.start).bytes ≡ Some bytes)
-  bytes-first = some_of (drive closed.log.start).bytes (sym closed.keeps.told ∙ ap (λ (d : D). is_some (drive d).bytes) closed.disk_is ∙ told)
+  pub told-last : is_some (drive closed.log.disk).bytes ≡ true
+  told-last = ap (λ (d : D). is_some (drive d).bytes) closed.disk_is ∙ told
 
-  pub cells-first : RecoversTo w (start_of last.origin) bytes-first.0
-  cells-first = closed.keeps.from bytes-first.0 bytes-first.1
-
-  -- These cells, and then those of the history.
+  -- The cells that its log had at the beginning, and then those of the history.
   abbrev pub cells-last : List Cell
-  cells-last = cells-first.cells ++ cells_of last.origin.world last.seen
+  cells-last = cells-kept drive w (start_of last.origin) last.seen closed.log closed.keeps closed.legal told-last good
 
   -- The file is the text of these cells, and a crash leaves that text.
   pub text-last : IsLog w cells-last (drive disk)
   text-last =
       subst (λ (d : D). IsLog w cells-last (drive d)) closed.disk_is
-      (closed.keeps.keeps.text cells-first.cells bytes-first.0 bytes-first.1 cells-first.recovers (closed.keeps.failed ∙ good))
-
-  legal-history : is_legal_history w (at_rest (state_of w cells-first.cells)) last.seen ≡ true
-  legal-history = subst (λ (s : State). is_legal_history w s last.seen ≡ true) (sym cells-first.state) closed.legal
+      (text-kept drive w (start_of last.origin) last.seen closed.log closed.keeps closed.legal told-last good)
 
   pub legal-last : IsLegalCells w cells-last
-  legal-last =
-      subst (λ (s : State). IsLegalCells w (cells-first.cells ++ cells_of s.world last.seen)) cells-first.state
-      (legal_behind w cells-first.cells last.seen cells-first.recovers.legal legal-history)
+  legal-last = legal-kept drive w (start_of last.origin) last.seen closed.log closed.keeps closed.legal told-last good
 
   -- These cells leave what the history left, with no open split.
   pub state-last : at_rest (state_of w cells-last) ≡ renewed_state w (start_of last.origin) last.seen
-  state-last =
-      subst (λ (s : State). at_rest (state_of w (cells-first.cells ++ cells_of s.world last.seen)) ≡ renewed_state w s last.seen) cells-first.state
-      (rest_behind w cells-first.cells last.seen cells-first.recovers.legal legal-history)
+  state-last = state-kept drive w (start_of last.origin) last.seen closed.log closed.keeps closed.legal told-last good
 
   pub world-last : (state_of w cells-last).world ≡ world_after last.origin.world last.seen
-  world-last = ap (λ (s : State). s.world) state-last ∙ state_after-world w (start_of last.origin) last.seen
+  world-last = world-kept drive w (start_of last.origin) last.seen closed.log closed.keeps closed.legal told-last good
 
   -- Any drive over the file whose bytes are a crash image of this drive.
   module _ {E : Type 0} (other : E → Drive) (size : ℕ) (also : List ℕ) (key : TableId) (next : Known) (number : ℕ) (newer : Option ℕ) (more : ℕ)

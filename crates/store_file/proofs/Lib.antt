@@ -4,9 +4,14 @@ mod Latest
 mod StoreFacts
 mod Results
 mod RotateFacts
+mod KeptCells
+mod RotatingFacts
 mod WaitingFacts
 mod EndedFacts
+mod MovingFacts
 pub mod Again
+pub mod MovedAgain
 pub mod Between
 pub mod Fewest
 pub mod RefusedFacts
+pub mod Turned

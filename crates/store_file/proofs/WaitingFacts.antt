@@ -2,7 +2,7 @@
 use Rattle.std.proofs.Common.{◌≡◌, inl, inr, ◌∙◌, ℕ, Bool, true, false, List, [], ◌∷◌, ◌++◌, length, Option, Some, None, is_some, Result, Ok, Err, refl, sym, ap, subst, arith}
 use Rattle.std.specs.Prelude.{⊤, ◌==◌, if◌then◌else◌, IfErr}
 use mathlib.Core.Bool.{true≢false}
-use Rattle.std.specs.Option.{option_map, option_map_or}
+use Rattle.std.specs.Option.{option_map}
 use Rattle.std.proofs.lemmas.Bool.Decides.{nat_tests}
 use Rattle.std.proofs.lemmas.List.{append-nil}
 use Rattle.std.proofs.lemmas.Option.{same_Some}
@@ -16,9 +16,7 @@ use Rattle.plain_list.specs.State.{State, IsLegal}
 use Rattle.plain_list.proofs.Histories.{has_failed-none, failed_cell-append}
 use Rattle.recovery.specs.declared.seen.Seen.{Seen}
 use Rattle.kept_log.specs.KeptView.{KeptView}
-use Rattle.kept_log.specs.Journal.{KeepsIn, KeepsLog, disk_in, moves_in, waiting_in, waits_from, written_in}
-use Rattle.kept_log.proofs.Moving.{unmoved-keeps}
-use Rattle.kept_log.proofs.Waiting.{keeps-synced}
+use Rattle.kept_log.specs.Journal.{KeepsIn, disk_in, moves_in, waits_from, written_in}
 use Rattle.book_lock.specs.Own.{times, once_below}
 use Rattle.book_lock.specs.Pass.{Known}
 use Rattle.book_lock.specs.declared.origin.Origin.{Origin}
@@ -34,7 +32,9 @@ use Rattle.sessions.proofs.Origins.{same-origin, start-of-origin}
 use Rattle.store_file.specs.Closed.{ClosesStore}
 use Rattle.store_file.specs.Objects.{IsLatest}
 use Rattle.store_file.specs.Opened.{BeginsOver, IsFirst, first_pass, found_origin}
-use Rattle.store_file.specs.Waiting.{ClosesUnsynced, KeepsUnsynced, LacksFrom, Writes, book_at, sync_cause, waiting_origin}
+use Rattle.store_file.specs.Rotating.{ClosesMoved}
+use Rattle.store_file.specs.Waiting.{EndsUnsynced, KeepsUnsynced, LacksFrom, Writes, book_at, sync_cause, waiting_origin}
+use Rattle.store_file.proofs.RotatingFacts.{closes-moved, moves-now, unmoved-counted}
 
 -- What follows from a fact of a pass.
 pub writes-as : (at_sync : Bool) (A B : Known → Type 0) → ((k : Known) → A k → B k) → (pass : Known) → Writes at_sync A pass → Writes at_sync B pass
@@ -124,10 +124,10 @@ same-number m n e = grind (arith, nat_tests)
 
 -- No fresh log may replace the log of a store that has this fact.
 pub fixed-by : {D : Type 0} (drive : D → Drive) (b : BookView D) (pass : Known) → origin_of drive b ≡ pass.origin → StartsAs drive ⊥ (λ start waits moves. moves ≡ false) b.log → moves_of pass.origin ≡ false
-fixed-by {D = D} drive b pass same starts = sym (ap moves_of same) ∙ by b.log starts
+fixed-by {D = D} drive b pass same starts = sym (moves-now drive b pass same) ∙ by b.log starts
   where
-    by : (log : Option (KeptView D)) → StartsAs drive ⊥ (λ start waits moves. moves ≡ false) log → option_map_or (λ (l : LogStart). l.moves) (option_map (start_in drive) log) false ≡ false
-    by None starts = refl
+    by : (log : Option (KeptView D)) → StartsAs drive ⊥ (λ start waits moves. moves ≡ false) log → moves_in log ≡ false
+    by None starts = absurd starts
     by (Some log) starts = starts
 
 pub starts-fixed : {D : Type 0} (drive : D → Drive) (log : Option (KeptView D)) → StartsAs drive ⊥ (λ start waits moves. (waits ≡ false) × (moves ≡ false)) log → moves_in log ≡ false
@@ -139,9 +139,9 @@ pub waits-start : {D : Type 0} (drive : D → Drive) (log : Option (KeptView D))
 waits-start drive None logged fixed = absurd (true≢false (sym logged))
 waits-start drive (Some log) logged fixed = fixed
 
--- The book of a store that was closed, before its sync and after it.
+-- The book of a store that was closed, before its sync and after it. `moves` says whether a fresh log may replace its log.
 module _ {D : Type 0} (drive : D → Drive) (w : ℕ) (pass : Known) (old new : BookView D) (books : AreBooks drive w old new) (value : (old.entries ≡ pass.seen) × (origin_of drive old ≡ pass.origin))
-    (own : (p : ℕ) → times p pass.own ≡ once_below p (length pass.seen)) (fixed : moves_of pass.origin ≡ false) where
+    (own : (p : ℕ) → times p pass.own ≡ once_below p (length pass.seen)) {moves : Bool} (fixed : moves_of pass.origin ≡ moves) where
   origin-now : origin_of drive new ≡ pass.origin
   origin-now = same-origin drive old new books.origin ∙ value.1
 
@@ -153,9 +153,8 @@ module _ {D : Type 0} (drive : D → Drive) (w : ℕ) (pass : Known) (old new : 
       subst (λ (s : State). IsLegal w s pass.seen) (sym (start-of-origin drive w old books.before.opening) ∙ ap start_of value.1)
       (subst (λ (h : List Entry). IsLegal w old.opening h) value.0 books.before.legal)
 
-  still-now : (log : KeptView D) → new.log ≡ Some log → log.moves ≡ false
-  still-now log is =
-      sym (ap (λ (l : Option (KeptView D)). option_map_or (λ (s : LogStart). s.moves) (option_map (start_in drive) l) false) is) ∙ ap moves_of origin-now ∙ fixed
+  moves-still : (log : KeptView D) → new.log ≡ Some log → log.moves ≡ moves
+  moves-still log is = sym (ap moves_in is) ∙ moves-now drive new pass origin-now ∙ fixed
 
   -- No fault is free to come but these.
   told : (fault : BookFault) → IsRefusedBy {A = ℕ} IsMemoryOrDisk (call_refusal old.kept old.entries) (Err fault) → IsTold (failed_cell pass.seen) (length pass.seen == most_events pass.origin.kept) fault
@@ -168,35 +167,11 @@ module _ {D : Type 0} (drive : D → Drive) (w : ℕ) (pass : Known) (old new : 
   done place is = sym (ap failed_cell value.0) ∙ done-by (failed_cell old.entries) (length old.entries == most_events old.kept) place is
 
   module _ (disk : D) (disk_is : disk_in new.log ≡ Some disk) where
-    -- The log has the same number of cells.
-    synced-by : (log : Option (KeptView D)) → new.log ≡ log → (place : ℕ) → Syncs old new place → failed_cell pass.seen ≡ None
-        → (closed : ClosesStore drive w (λ start. ⊤) pass disk) × (closed.log.cells ≡ written_in log)
-    synced-by None is place synced good = absurd (true≢false (sym (ap is_some (sym (ap disk_in is) ∙ disk_is))))
-    synced-by (Some log) is place synced good =
-        let in-log = unmoved-keeps drive w new.opening new.entries log (still-now log is) (subst (λ (l : Option (KeptView D)). KeepsIn drive w new.opening new.entries l) is books.after.on_log) in
-        let entries : new.entries ≡ pass.seen = synced.entries ∙ value.0 in (
-          record {
-            own = own;
-            legal = legal-seen;
-            log = log;
-            disk_is = same_Some log.disk disk (sym (ap disk_in is) ∙ disk_is);
-            began = sym (ap (λ (o : Origin). o.log) origin-now) ∙ ap (λ (l : Option (KeptView D)). option_map (start_in drive) l) is;
-            still = still-now log is;
-            starts = tt;
-            keeps = subst (λ (s : State). KeepsLog drive w s pass.seen log) opening-now
-                (subst (λ (h : List Entry). KeepsLog drive w new.opening h log) entries
-                (keeps-synced drive w new.opening new.entries log in-log (sym (ap waiting_in is) ∙ synced.waiting) (in-log.failed ∙ ap failed_cell entries ∙ good)));
-          },
-          refl,
-        )
+    -- No record waits now.
+    pub moved-synced : (place : ℕ) → Syncs old new place → failed_cell pass.seen ≡ None → (closed : ClosesMoved drive w pass disk) × (closed.log.cells ≡ written_in new.log)
+    moved-synced place synced good = closes-moved drive w pass new books.after (synced.entries ∙ value.0, origin-now) own disk disk_is good synced.waiting
 
-    pub synced-counted : (place : ℕ) → Syncs old new place → failed_cell pass.seen ≡ None → (closed : ClosesStore drive w (λ start. ⊤) pass disk) × (closed.log.cells ≡ written_in new.log)
-    synced-counted = synced-by new.log refl
-
-    pub closes-synced : (place : ℕ) → Syncs old new place → IsRefusedBy IsMemoryOrDisk (call_refusal old.kept old.entries) (Ok place) → ClosesStore drive w (λ start. ⊤) pass disk
-    closes-synced place synced is = (synced-counted place synced (done place is)).0
-
-    keeps-by : (log : Option (KeptView D)) → new.log ≡ log → (more : List Entry) → new.entries ≡ pass.seen ++ more → (keeps : KeepsUnsynced drive w pass more disk) × (keeps.log.cells ≡ written_in log)
+    keeps-by : (log : Option (KeptView D)) → new.log ≡ log → (more : List Entry) → new.entries ≡ pass.seen ++ more → (keeps : KeepsUnsynced drive w moves pass more disk) × (keeps.log.cells ≡ written_in log)
     keeps-by None is more entries = absurd (true≢false (sym (ap is_some (sym (ap disk_in is) ∙ disk_is))))
     keeps-by (Some log) is more entries = (
       record {
@@ -205,7 +180,7 @@ module _ {D : Type 0} (drive : D → Drive) (w : ℕ) (pass : Known) (old new : 
         log = log;
         disk_is = same_Some log.disk disk (sym (ap disk_in is) ∙ disk_is);
         began = sym (ap (λ (o : Origin). o.log) origin-now) ∙ ap (λ (l : Option (KeptView D)). option_map (start_in drive) l) is;
-        still = still-now log is;
+        moves_is = moves-still log is;
         keeps = subst (λ (s : State). KeepsIn drive w s (pass.seen ++ more) (Some log)) opening-now
             (subst (λ (h : List Entry). KeepsIn drive w new.opening h (Some log)) entries
             (subst (λ (l : Option (KeptView D)). KeepsIn drive w new.opening new.entries l) is books.after.on_log));
@@ -213,7 +188,7 @@ module _ {D : Type 0} (drive : D → Drive) (w : ℕ) (pass : Known) (old new : 
       refl,
     )
 
-    lacks : (more : List Entry) (cell : ℕ) → new.entries ≡ pass.seen ++ more → failed_cell (pass.seen ++ more) ≡ Some cell → LacksFrom drive w pass more cell disk
+    lacks : (more : List Entry) (cell : ℕ) → new.entries ≡ pass.seen ++ more → failed_cell (pass.seen ++ more) ≡ Some cell → LacksFrom drive w moves pass more cell disk
     lacks more cell entries is =
         let kept = keeps-by new.log refl more entries in
         record { keeps = kept.0; cell_is = books.after.named cell (ap failed_cell entries ∙ is) ∙ sym kept.1 }
@@ -221,7 +196,7 @@ module _ {D : Type 0} (drive : D → Drive) (w : ℕ) (pass : Known) (old new : 
     unchanged : new ≡ old → new.entries ≡ pass.seen ++ []
     unchanged left = ap (λ (v : BookView D). v.entries) left ∙ value.0 ∙ sym (append-nil pass.seen)
 
-    by-fault : (fault : BookFault) → IsTold (failed_cell pass.seen) (length pass.seen == most_events pass.origin.kept) fault → LeavesRefused drive lost_sync old new fault → ClosesUnsynced drive w pass disk (sync_cause fault)
+    by-fault : (fault : BookFault) → IsTold (failed_cell pass.seen) (length pass.seen == most_events pass.origin.kept) fault → LeavesRefused drive lost_sync old new fault → EndsUnsynced drive w moves pass disk (sync_cause fault)
     by-fault (Closed cell) is left = (is, lacks [] cell (unchanged left) (ap failed_cell (append-nil pass.seen) ∙ is))
     by-fault (Disk cell) is left = (
       is,
@@ -238,8 +213,18 @@ module _ {D : Type 0} (drive : D → Drive) (w : ℕ) (pass : Known) (old new : 
     by-fault (Stale number) is left = absurd is
     by-fault (NotOpen number) is left = absurd is
 
-    pub closes-unsynced : (fault : BookFault) → IsRefusedBy {A = ℕ} IsMemoryOrDisk (call_refusal old.kept old.entries) (Err fault) → LeavesRefused drive lost_sync old new fault → ClosesUnsynced drive w pass disk (sync_cause fault)
+    pub closes-unsynced : (fault : BookFault) → IsRefusedBy {A = ℕ} IsMemoryOrDisk (call_refusal old.kept old.entries) (Err fault) → LeavesRefused drive lost_sync old new fault → EndsUnsynced drive w moves pass disk (sync_cause fault)
     closes-unsynced fault refused left = by-fault fault (told fault refused) left
+
+-- The same, of a store whose log no fresh one may replace.
+module _ {D : Type 0} (drive : D → Drive) (w : ℕ) (pass : Known) (old new : BookView D) (books : AreBooks drive w old new) (value : (old.entries ≡ pass.seen) × (origin_of drive old ≡ pass.origin))
+    (own : (p : ℕ) → times p pass.own ≡ once_below p (length pass.seen)) (fixed : moves_of pass.origin ≡ false) (disk : D) (disk_is : disk_in new.log ≡ Some disk) (place : ℕ) (synced : Syncs old new place) where
+  -- The log has the same number of cells.
+  pub synced-counted : failed_cell pass.seen ≡ None → (closed : ClosesStore drive w (λ start. ⊤) pass disk) × (closed.log.cells ≡ written_in new.log)
+  synced-counted good = unmoved-counted drive w pass disk (written_in new.log) (moved-synced drive w pass old new books value own fixed disk disk_is place synced good) fixed
+
+  pub closes-synced : IsRefusedBy IsMemoryOrDisk (call_refusal old.kept old.entries) (Ok place) → ClosesStore drive w (λ start. ⊤) pass disk
+  closes-synced is = (synced-counted (done drive w pass old new books value own fixed place is)).0
 
 -- A store begins with a book over what was found.
 module _ {D : Type 0} (drive : D → Drive) (bucket : ℕ) (seen : Seen) (start : D) (b new : BookView D) (origin : origin_of drive b ≡ found_origin false bucket seen (drive start)) (world : IsWorld seen.world)

@@ -8,7 +8,9 @@ pub mod Again
 pub mod Either
 pub mod Rotated
 pub mod Waiting
+pub mod Rotating
 pub mod Ended
+pub mod Moving
 pub use Rattle.recovery.specs.Opening
 pub use Rattle.recovery.specs.Calls
 pub use Rattle.recovery.specs.Faults

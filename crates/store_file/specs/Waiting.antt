@@ -45,30 +45,33 @@ book_at false b = b
 book_at true b = record b { log = option_map waits_from b.log }
 
 -- What a store leaves if the records that waited at its close aren't all in its file. The history that its log keeps
--- ends with these entries. The file may lack records from `log.cells` on.
-pub record KeepsUnsynced {D : Type 0} (drive : D → Drive) (w : ℕ) (pass : Known) (more : List Entry) (disk : D) : Type 0 where
+-- ends with these entries. The file may lack records from `log.cells` on. `moves` says whether a fresh log may replace it.
+pub record KeepsUnsynced {D : Type 0} (drive : D → Drive) (w : ℕ) (moves : Bool) (pass : Known) (more : List Entry) (disk : D) : Type 0 where
   pub own : (p : ℕ) → times p pass.own ≡ once_below p (length pass.seen)
   pub legal : IsLegal w (start_of pass.origin) pass.seen
   pub log : KeptView D
   pub disk_is : log.disk ≡ disk
   pub began : pass.origin.log ≡ Some (start_in drive log)
-  -- No fresh log may replace it.
-  pub still : log.moves ≡ false
+  pub moves_is : log.moves ≡ moves
   pub keeps : KeepsIn drive w (start_of pass.origin) (pass.seen ++ more) (Some log)
 
 -- The same, and this record is the first one that the file may lack.
-pub record LacksFrom {D : Type 0} (drive : D → Drive) (w : ℕ) (pass : Known) (more : List Entry) (cell : ℕ) (disk : D) : Type 0 where
-  pub keeps : KeepsUnsynced drive w pass more disk
+pub record LacksFrom {D : Type 0} (drive : D → Drive) (w : ℕ) (moves : Bool) (pass : Known) (more : List Entry) (cell : ℕ) (disk : D) : Type 0 where
+  pub keeps : KeepsUnsynced drive w moves pass more disk
   pub cell_is : cell ≡ keeps.log.cells
 
 -- Why the file may lack records, and what is left. An append had failed before. Or the drive failed at the close: then
 -- the history ends with an entry of that failure, and a crash leaves all records that waited or none. Or nothing was
 -- written, since memory ran out or the history was full.
+abbrev pub EndsUnsynced : {D : Type 0} → (D → Drive) → ℕ → Bool → Known → D → SyncCause → Type 0
+EndsUnsynced drive w moves pass disk (Closed cell) = (failed_cell pass.seen ≡ Some cell) × LacksFrom drive w moves pass [] cell disk
+EndsUnsynced drive w moves pass disk (Disk cell) = (failed_cell pass.seen ≡ None) × LacksFrom drive w moves pass (Fail cell lost_sync ∷ []) cell disk
+EndsUnsynced drive w moves pass disk Memory = (failed_cell pass.seen ≡ None) × KeepsUnsynced drive w moves pass [] disk
+EndsUnsynced drive w moves pass disk HistoryFull = (failed_cell pass.seen ≡ None) × (length pass.seen ≡ most_events pass.origin.kept) × KeepsUnsynced drive w moves pass [] disk
+
+-- The same of a store whose log no fresh one may replace.
 abbrev pub ClosesUnsynced : {D : Type 0} → (D → Drive) → ℕ → Known → D → SyncCause → Type 0
-ClosesUnsynced drive w pass disk (Closed cell) = (failed_cell pass.seen ≡ Some cell) × LacksFrom drive w pass [] cell disk
-ClosesUnsynced drive w pass disk (Disk cell) = (failed_cell pass.seen ≡ None) × LacksFrom drive w pass (Fail cell lost_sync ∷ []) cell disk
-ClosesUnsynced drive w pass disk Memory = (failed_cell pass.seen ≡ None) × KeepsUnsynced drive w pass [] disk
-ClosesUnsynced drive w pass disk HistoryFull = (failed_cell pass.seen ≡ None) × (length pass.seen ≡ most_events pass.origin.kept) × KeepsUnsynced drive w pass [] disk
+ClosesUnsynced drive w pass disk cause = EndsUnsynced drive w false pass disk cause
 
 -- The cause that a fault of a sync is reported as.
 abbrev pub sync_cause : BookFault → SyncCause

@@ -36,7 +36,8 @@ pub fn close_store<I: Index, D: LogDisk>(
 }
 
 /// The same for a store with a fact about its drive (`Start`), if no book without a log has that fact, and none whose
-/// records wait for a sync or whose log a fresh one may replace. The contract says that the fact held of the drive when its log was opened.
+/// records wait for a sync or whose log a fresh one may replace. The contract says that the fact held of the drive when
+/// its log was opened.
 pub fn close_over<I: Index, D: LogDisk, O: Start>(
     store: Store<I, D, O>,
     pass: Pass<SharedBook<I, D, O>>,

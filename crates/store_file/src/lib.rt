@@ -18,6 +18,13 @@
 //! - `open_at_sync`, `open_either_at_sync`, `close_at_sync` and `rotate_at_sync` do the same for a store whose records may
 //!   wait in memory for a sync (`IsAtSync`). Such a close writes what waits. If it can't, `ClosesUnsynced` says what the
 //!   file may lack. `let_wait` makes such a store of one that was opened or rotated.
+//! - `let_rotate` makes of such a store, or of one that writes each record at once, one that keeps the drive of a second
+//!   file, over which it may continue while its history goes on (`Rotating`). `close_rotating` writes what waits, and
+//!   returns both drives. If nothing is lost, the next opening begins with the objects that the history left, however many
+//!   fresh logs have replaced the log (`ClosesMoved`; `finds-moved`, proofs/MovedAgain).
+//! - `rotate_above` continues a store over its second file inside a call, if its log has more than so many records. The
+//!   history goes on, and other callers only wait (`MovesOver`). If a drive fails, the store takes no more calls
+//!   (`StopsStore`).
 //!
 //! Not here: the calls of a store (`sessions`), and shorter calls (`store_client`).
 #![tactic(auto)]
@@ -26,19 +33,23 @@ mod closing;
 mod either;
 mod faults;
 mod files;
+mod moving;
 mod objects;
 mod opening;
 mod rotating;
 mod rotating_at_sync;
+mod spare;
 mod start;
 mod waiting;
 
 pub use closing::{ClosedStore, close_over, close_store};
 pub use either::{OpenedEither, Which, open_either, open_either_at_sync};
 pub use faults::{EitherCause, NotEither, NotOpened, OpenCause};
+pub use moving::{NotRotatedOver, Rotation, StayCause, rotate_above};
 pub use objects::latest_of;
 pub use opening::{LEAST_BUCKET, MOST_BUCKET, OpenedStore, open_at_sync, open_over, open_store};
 pub use rotating::{NotRotated, RotateCause, Rotated, rotate_anew, rotate_store};
 pub use rotating_at_sync::{EndCause, EndedRotation, rotate_at_sync};
-pub use start::{AtSync, OverFile};
+pub use spare::{ClosedPair, NotPaired, close_rotating, let_rotate};
+pub use start::{AtSync, OverFile, Rotating};
 pub use waiting::{SyncCause, Unsynced, close_at_sync, let_wait};
