@@ -12,6 +12,11 @@ use Rattle.commit_book.specs.declared.faults.BookFault.{BookFault}
 use Rattle.sessions.specs.Syncs.{SyncsPass}
 use Rattle.sessions.proofs.StepLemmas.{prefix-later}
 use Rattle.sessions.proofs.SyncLemmas.{sync-same}
+use Rattle.disk_trait.specs.Drive.{Drive}
+use Rattle.store_file.specs.declared.moving.Rotation.{Rotation}
+use Rattle.store_file.specs.declared.moving.NotRotatedOver.{NotRotatedOver}
+use Rattle.store_file.specs.Moving.{RotatesAbove}
+use Rattle.store_file.proofs.Turned.{rotates-same}
 use Rattle.book_lock.specs.Pass.{Known}
 use Rattle.store_client.specs.Caller.{Caller, Keeps}
 use Rattle.store_client.specs.Pools.{IsGuest}
@@ -57,6 +62,9 @@ module _ (w id : ℕ) (at : Point) (moment : ℕ) where
 
 pub sync-later : (old new : Caller) (result : Result ℕ BookFault) → SyncsPass old.pass new.pass result → Later old new
 sync-later old new result syncs = (sync-same old.pass new.pass result syncs).0
+
+pub rotate-later : {D : Type 0} (drive : D → Drive) (w records : ℕ) (old new : Caller) (result : Result Rotation NotRotatedOver) → RotatesAbove drive w records old.pass new.pass result → Later old new
+rotate-later drive w records old new result rotates = (rotates-same drive w records old.pass new.pass result rotates).0
 
 -- a client that makes a call stays a guest
 pub stays-guest : (lender : Known) (old new : Caller) → IsGuest lender old → Keeps old new → Later old new → IsGuest lender new

@@ -8,6 +8,7 @@ ghost use Rattle.sessions.specs.Rooms.{IsRoom};
 ghost use Rattle.sessions.specs.Runs.{HasLooked};
 ghost use Rattle.sessions.specs.Syncs.{SyncsPass, WasDurable};
 ghost use Rattle.sessions.specs.Views.{IsView, IsWorldAt};
+ghost use Rattle.store_file.specs.Moving.{RotatesAbove};
 ghost use Rattle.store_client.specs.Asked.{Asked};
 ghost use Rattle.store_client.specs.Batches.{Applies};
 ghost use Rattle.store_client.specs.Caller.{IsNearEnd, world_seen};
@@ -27,6 +28,7 @@ use sessions::{CallFault, Start, WorldAt};
 use std::marker::Model;
 use std::sync::atomic::{AtomicU64, Ordering};
 use std::sync::{MutexGuard, Wait};
+use store_file::{NotRotatedOver, Rotation};
 use zorder::{Memory, Point, Region};
 
 /// A client of a pool that one thread has. It goes back to the pool when it is dropped. Contracts see the client. It has
@@ -161,6 +163,18 @@ impl<'p, 's, I: Index, D: LogDisk, O: Start, L: Lender> Guest<'p, 's, I, D, O, L
         ensures client { self.new ≡ record self.old { pass = self.new.pass } }
     {
         self.desk.client.sync(rt)
+    }
+
+    /// As `Client::rotate_above`.
+    pub fn rotate_above<R: Wait>(
+        &mut self,
+        rt: &R,
+        records: u64,
+    ) -> Result<Rotation, NotRotatedOver>
+        ensures rotated { RotatesAbove D.drive I.WIDTH records self.old.pass self.new.pass result }
+        ensures client { self.new ≡ record self.old { pass = self.new.pass } }
+    {
+        self.desk.client.rotate_above(rt, records)
     }
 
     /// As `Client::room`.

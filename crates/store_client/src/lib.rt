@@ -13,6 +13,7 @@
 //! | `place`, `last_change` | the place of the last call that was answered, and what it has changed |
 //! | `Replies::changes` | what a batch has changed |
 //! | `closed` | the record whose append failed, if one did |
+//! | `rotate_above` | lets the store continue over its second file, if its log has so many records (`RotatesAbove`) |
 //! | `another`, `join`, `learn` | share the store with other callers |
 //! | `work_all` | lets a team work at once, each in its own thread (`TeamDid`) |
 //! | `host` | lets a crew work at once, by clients that it takes from a `Pool` and gives back (`HasHosted`) |
@@ -32,6 +33,7 @@ mod crowd;
 mod guest;
 mod limits;
 mod pool;
+mod rotating;
 mod service;
 mod shares;
 mod syncing;
