@@ -29,6 +29,13 @@ use Rattle.sessions.specs.Splits.{BeginsSplit, InstallsSplit, AbandonsSplit, Ran
 use Rattle.sessions.specs.Steps.{all_parts, has_added, has_seen, Leaves}
 use Rattle.sessions.specs.Syncs.{SyncsPass}
 use Rattle.commit_book.specs.Syncs.{lost_sync}
+use Rattle.commit_book.specs.Moves.{lost_stop}
+use Rattle.disk_trait.specs.Drive.{Drive}
+use Rattle.store_file.specs.declared.moving.Rotation.{Rotation}
+use Rattle.store_file.specs.declared.moving.Rotation.TheVariants as turned
+use Rattle.store_file.specs.declared.moving.NotRotatedOver.{NotRotatedOver}
+use Rattle.store_file.specs.declared.moving.NotRotatedOver.TheVariants as over
+use Rattle.store_file.specs.Moving.{RotatesAbove}
 use Rattle.store_client.specs.Asked.{Asked, Follows}
 use Rattle.store_client.specs.Batches.{Applies, FollowsAll, TriesEach, first_row}
 use Rattle.store_client.specs.Caller.{Caller, world_seen}
@@ -211,3 +218,12 @@ syncs-same old new (Err book.Deep) all is = seen old new is.before (is.alone all
 syncs-same old new (Err book.NoLeaf) all is = seen old new is.before (is.alone all) is.leaves
 syncs-same old new (Err (book.Stale number)) all is = seen old new is.before (is.alone all) is.leaves
 syncs-same old new (Err (book.NotOpen number)) all is = seen old new is.before (is.alone all) is.leaves
+
+-- A store that continues over its second file, or doesn't, has the same objects.
+pub rotates-same : {D : Type 0} (drive : D → Drive) (w records : ℕ) (old new : Known) (r : Result Rotation NotRotatedOver) → old.parts ≡ all_parts → RotatesAbove drive w records old new r → SeesSame old new
+rotates-same drive w records old new (Ok turned.Enough) all is = looked-same old new all is.looked
+rotates-same drive w records old new (Ok turned.NoSpare) all is = looked-same old new all is.looked
+rotates-same drive w records old new (Ok turned.Done) all is = looked-same old new all is.looked
+rotates-same drive w records old new (Err (over.Stays cause)) all is = looked-same old new all is.looked
+rotates-same drive w records old new (Err over.SpareFailed) all is = added old new is.before.entries (Fail is.cell lost_stop) (is.alone all) refl is.added
+rotates-same drive w records old new (Err over.FirstFailed) all is = added old new is.before.entries (Fail is.cell lost_stop) (is.alone all) refl is.added

@@ -2,6 +2,7 @@ pub mod Fresh
 pub mod Memory
 pub mod Now
 pub mod Rotated
+pub mod Rotating
 pub mod Sessions
 pub mod Status
 pub mod Team

@@ -12,7 +12,8 @@
 //! | let threads share it | `work_all`, and a `Work` for each thread, which calls by a `Client` |
 //! | let threads take clients whenever they like | `pool`, and a `Service` for each thread, which calls by a `Guest` |
 //! | ask several questions of one moment | `view`, which returns a `View` |
-//! | continue before its log is full | `rotate`, and `or_kept` if it is refused |
+//! | let it continue over a second file, while others call | `RotatingStore::open_pair`, and `rotate_above` |
+//! | do so by hand, with an empty history | `rotate`, and `or_kept` if it is refused |
 //! | watch fences | `Fences`, `Tally`, and `last_change` after each call |
 //!
 //! Both are an `ObjectStore`: a store with the right to call and to end it, in one value. Contracts see it as a caller
@@ -39,6 +40,7 @@ mod memory_store;
 mod no_drive;
 mod object_store;
 mod pool;
+mod rotating_store;
 mod session;
 mod syncing;
 mod team;
@@ -95,6 +97,8 @@ pub use plain_list::PlacedList;
 pub use plain_list::Stamped;
 pub use plain_list::World;
 pub use quad_trie::QuadTrie;
+pub use rotating_store::OpenedRotating;
+pub use rotating_store::RotatingStore;
 pub use session::Session;
 pub use sessions::CallFault;
 pub use sessions::Settled;
@@ -126,6 +130,7 @@ pub use store_client::Work;
 pub use store_client::Worker;
 pub use store_client::at_once;
 pub use store_file::AtSync;
+pub use store_file::ClosedPair;
 pub use store_file::ClosedStore;
 pub use store_file::EitherCause;
 pub use store_file::EndCause;
@@ -134,18 +139,25 @@ pub use store_file::LEAST_BUCKET;
 pub use store_file::MOST_BUCKET;
 pub use store_file::NotEither;
 pub use store_file::NotOpened;
+pub use store_file::NotPaired;
 pub use store_file::NotRotated;
+pub use store_file::NotRotatedOver;
 pub use store_file::OpenCause;
 pub use store_file::OpenedEither;
 pub use store_file::OpenedStore;
 pub use store_file::OverFile;
 pub use store_file::RotateCause;
 pub use store_file::Rotated;
+pub use store_file::Rotating;
+pub use store_file::Rotation;
+pub use store_file::StayCause;
 pub use store_file::SyncCause;
 pub use store_file::Unsynced;
 pub use store_file::Which;
 pub use store_file::close_at_sync;
+pub use store_file::close_rotating;
 pub use store_file::close_store;
+pub use store_file::let_rotate;
 pub use store_file::let_wait;
 pub use store_file::open_at_sync;
 pub use store_file::open_either;
