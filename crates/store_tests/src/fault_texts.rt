@@ -1,5 +1,5 @@
 //! The texts of a refused call, a refused step of a book, an operation that is not added to a batch, a refused rotation, a
-//! close that may lack records, and a refused opening in memory or of two files.
+//! close that may lack records, a store that stays over its file, and a refused opening in memory or of two files.
 use commit_book::{BookFault, MoveFault};
 use pisrakun::NotInMemory;
 use recovery::OpenFault;
@@ -8,7 +8,9 @@ use std::alloc::Global;
 use std::fmt::Display;
 use std::process::Abort;
 use store_client::NotAdded;
-use store_file::{EitherCause, EndCause, OpenCause, RotateCause, SyncCause};
+use store_file::{
+    EitherCause, EndCause, NotRotatedOver, OpenCause, RotateCause, StayCause, SyncCause,
+};
 
 const REFUSED: &[(CallFault, &str)] = &[
     (
@@ -170,6 +172,31 @@ const ENDED: &[(EndCause, &str)] = &[
     (EndCause::Memory, "out of memory"),
 ];
 
+const STAYS: &[(StayCause, &str)] = &[
+    (StayCause::Splitting { number: 3 }, "split 3 is open"),
+    (StayCause::HistoryFull, "the history is full"),
+    (
+        StayCause::Refused {
+            cause: RotateCause::InUse { len: 18 },
+        },
+        "the second file has 18 bytes",
+    ),
+];
+
+const STOPPED: &[(NotRotatedOver, &str)] = &[
+    (
+        NotRotatedOver::Stays {
+            cause: StayCause::Splitting { number: 3 },
+        },
+        "split 3 is open",
+    ),
+    (NotRotatedOver::SpareFailed, "the second drive failed"),
+    (
+        NotRotatedOver::FirstFailed,
+        "the first drive failed while its log was emptied",
+    ),
+];
+
 fn expect_text(rt: &impl Abort, alloc: Global, fault: &impl Display, text: &str) {
     let told = format!(in alloc; "{fault}").expect(rt, "it failed");
     assert_same!(rt; told.as_str(), text);
@@ -241,6 +268,16 @@ fn a_close_that_may_lack_records_tells_its_cause(rt: HostRuntime) {
 #[test]
 fn a_store_that_is_not_rotated_tells_its_cause(rt: HostRuntime) {
     for (cause, text) in ENDED {
+        expect_text(&rt, rt.alloc(), cause, text);
+    }
+}
+
+#[test]
+fn a_store_that_stays_over_its_file_tells_its_cause(rt: HostRuntime) {
+    for (cause, text) in STAYS {
+        expect_text(&rt, rt.alloc(), cause, text);
+    }
+    for (cause, text) in STOPPED {
         expect_text(&rt, rt.alloc(), cause, text);
     }
 }

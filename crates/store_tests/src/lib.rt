@@ -61,6 +61,8 @@ mod refusals;
 #[cfg(test)]
 mod resumes;
 #[cfg(test)]
+mod rotating;
+#[cfg(test)]
 mod rotations;
 #[cfg(test)]
 mod stores;

@@ -39,6 +39,9 @@ pub(crate) const FILLED: &[&[u8]] = &[HEADER, PUT_1, PUT_2, PUT_3, REMOVE_3, END
 
 pub(crate) const ANEW: &[&[u8]] = &[HEADER, PUT_1, PUT_2, END];
 
+// The log that was filled, with one put more.
+pub(crate) const FILLED_AND_ON: &[&[u8]] = &[HEADER, PUT_1, PUT_2, PUT_3, REMOVE_3, PUT_4, END];
+
 pub(crate) const GONE_ON: &[&[u8]] = &[HEADER, PUT_1, PUT_2, PUT_4, END];
 
 // The bytes of these pieces.

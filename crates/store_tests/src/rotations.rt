@@ -4,8 +4,8 @@ use crate::files::{
     go_on, open_one, rotate, rotated,
 };
 use crate::logs::{
-    ANEW, EMPTY, END, FILLED, GONE_ON, HEADER, PUT_1, PUT_2, PUT_3, PUT_4, REMOVE_3, UNSET_1,
-    disk_of, disk_with, expect_bytes,
+    ANEW, EMPTY, END, FILLED, FILLED_AND_ON, GONE_ON, HEADER, PUT_1, PUT_2, PUT_3, REMOVE_3,
+    UNSET_1, disk_of, disk_with, expect_bytes,
 };
 use disk_mem::{DiskCall, Fail, MemDisk};
 use disk_trait::LogDisk;
@@ -209,9 +209,6 @@ fn keeps_its_log<R: Wait + Abort>(
     let found = (2, Some(20), records, FIRST_TWO);
     expect_in(rt, alloc, one, two, (which, found));
 }
-
-// The log of the first file, with one put more.
-const FILLED_AND_ON: &[&[u8]] = &[HEADER, PUT_1, PUT_2, PUT_3, REMOVE_3, PUT_4, END];
 
 fn leaves_a_file_in_use<R: Wait + Abort>(rt: &R, alloc: Global, leaves: Leaves) {
     let (one, two) = (disk_with(rt, alloc, &[]), disk_with(rt, alloc, GONE_ON));
