@@ -1,14 +1,14 @@
 //! A day of the company over a store, the end of the days, and what the next run finds.
 use crate::drivers::{Driver, Told, count_found};
 use crate::yard::Day;
-use anyhow::{Context, Result, bail};
-use pisrakun::{FileStore, KdTrie, LogDisk, Room, RotatedStore};
+use anyhow::{Context, Result};
+use pisrakun::{KdTrie, LogDisk, OverFile, Room, RotatingStore};
 use std::alloc::Global;
 use std::sync::Wait;
 use std::thread::Threads;
 
-/// The company's store over a file, on any drive.
-pub type Vans<D> = FileStore<KdTrie, D>;
+/// The company's store over two files, on any drive.
+pub type Vans<D> = RotatingStore<KdTrie, D, OverFile>;
 
 /// The result of a day, and how much room was left in the evening.
 #[derive(Drop)]
@@ -39,18 +39,12 @@ pub fn play_day<D: LogDisk + Send, R: Threads + Wait + Sync>(
     Ok(DayEnd { told, room })
 }
 
-/// The end of the days. The store continues over a fresh log in the other file, and is closed. If that file isn't free,
-/// or there is too little memory, it is closed over its own.
-pub fn end_days<D: LogDisk, R: Wait>(rt: &R, vans: Vans<D>, spare: D) -> Result<()> {
-    let vans = match vans.rotate(rt, spare) {
-        Ok(RotatedStore { store, spare: _ }) => store,
-        Err(refused) => {
-            let (store, _spare, _cause) = refused.or_kept().map_err(|ended| ended.cause())?;
-            store
-        }
-    };
+/// The end of the days. The store goes over to the other file, and is closed. If there is too little memory for that, it
+/// is closed over its own.
+pub fn end_days<D: LogDisk, R: Wait>(rt: &R, mut vans: Vans<D>) -> Result<()> {
+    let _ = vans.rotate_above(rt, 0);
     match vans.close().lost {
-        Some(cell) => bail!("record {cell} isn't in the log, or may not be"),
+        Some(cause) => Err(cause.into()),
         None => Ok(()),
     }
 }

@@ -64,8 +64,11 @@ impl Driver {
     }
 }
 
+// How many records a log may have. If it has more, a driver lets the store go over to the other file.
+const MOST_RECORDS: u64 = 1 << 20;
+
 impl<R: Wait> Work<R> for Driver {
-    // Reports until a call is refused, or until the tally of the yard fails.
+    // Reports until a call is refused, or until the tally of the yard fails. Looks after the log in each round.
     fn work<I: Index, D: LogDisk, O: Start>(&mut self, rt: &R, client: &mut Client<'_, I, D, O>)
         ensures client { Keeps client.old client.new }
     {
@@ -74,6 +77,9 @@ impl<R: Wait> Work<R> for Driver {
             let Ok(told) = client.report(rt, van, now.at, now.moment) else {
                 return;
             };
+            if row % VANS == 0 {
+                let _ = client.rotate_above(rt, MOST_RECORDS);
+            }
             let is_good = self.day.is_good(self.number, row, told);
             self.good = self.good.saturating_add(u32::from(is_good));
             if let Some(change) = client.last_change()

@@ -1,9 +1,9 @@
 //! A delivery company over the store and a log. For two days four drivers report where their vans are. Each driver has
 //! a thread of their own, and watches which vans leave the yard and come back. The reports are kept in a log in one of
 //! two files, `depot.log` and `depot.next.log`. A run creates the files if they aren't there. Otherwise it continues
-//! with what it finds, where the last run left the vans. After the days the store is rotated into the other file. That
-//! file has one record for each van, and none for its earlier positions. Then both files are opened again, and each van is
-//! looked up.
+//! with what it finds, where the last run left the vans. If the log has more than a million records, a driver lets the
+//! store go over to the other file, while the others report. After the days it goes over once more: that file has one
+//! record for each van, and none for its earlier positions. Then both files are opened again, and each van is looked up.
 //!
 //! The output is the same however the threads run. The drivers report vans of their own, each in a quarter of the town
 //! of their own. A leaf is split if it has too many vans, whatever order they came in. So neither the answers nor the
@@ -15,9 +15,8 @@ mod drivers;
 mod yard;
 
 use anyhow::Result;
-use day::{DayEnd, end_days, look_after, play_day};
-use pisrakun::{FileDisk, FileStore, KdTrie, LogDisk, OpenedPair, OverFile, Which};
-use std::alloc::Global;
+use day::{DayEnd, Vans, end_days, look_after, play_day};
+use pisrakun::{FileDisk, KdTrie, LogDisk, OpenedRotating, OverFile, Which};
 use std::io;
 use std::io::Print;
 use std::sync::Wait;
@@ -53,11 +52,12 @@ fn tell_day(rt: &impl Print, number: usize, end: &DayEnd) -> io::Result<()> {
     println!(rt; "day {number}: room for {records} more records")
 }
 
-type Opened<D> = OpenedPair<KdTrie, D, OverFile>;
+type Opened<D> = OpenedRotating<KdTrie, D, OverFile>;
 
-// The store over the log in one of the files.
-fn open_vans<D: LogDisk>(alloc: Global, first: D, second: D) -> Result<Opened<D>> {
-    let opened = FileStore::<KdTrie, D>::open_pair(alloc, first, FIRST, second, SECOND, BUCKET);
+// The store over both files.
+fn open_vans<D: LogDisk, R: Wait + AllocGlobal>(rt: &R, first: D, second: D) -> Result<Opened<D>> {
+    let alloc = rt.alloc();
+    let opened = Vans::<D>::open_pair(rt, alloc, first, FIRST, second, SECOND, BUCKET);
     Ok(opened.map_err(|refused| refused.cause)?)
 }
 
@@ -68,18 +68,17 @@ fn work<R: Threads + Wait + Sync + AllocGlobal + Print, D: LogDisk + Send>(
     second: D,
 ) -> Result<Day> {
     let alloc = rt.alloc();
-    let OpenedPair {
+    let OpenedRotating {
         store: mut vans,
-        spare,
         which,
         found,
-    } = open_vans(alloc, first, second)?;
+    } = open_vans(rt, first, second)?;
     let day = Day::behind(found.latest.unwrap_or(0));
     let (file, vans_found, records) = (file_of(which), found.objects, found.records);
     let told = println!(rt; "{file}: {vans_found} vans in {records} records");
     let one = play_day(rt, alloc, &mut vans, day);
     let two = play_day(rt, alloc, &mut vans, day.next());
-    end_days(rt, vans, spare)?;
+    end_days(rt, vans)?;
     told?;
     tell_day(rt, 1, &one?)?;
     tell_day(rt, 2, &two?)?;
@@ -93,12 +92,11 @@ fn look_again<R: Wait + AllocGlobal + Print, D: LogDisk>(
     second: D,
     day: Day,
 ) -> Result<()> {
-    let OpenedPair {
+    let OpenedRotating {
         store,
-        spare: _,
         which,
         found,
-    } = open_vans(rt.alloc(), first, second)?;
+    } = open_vans(rt, first, second)?;
     let left = look_after(rt, store, day);
     let (file, vans_found, records) = (file_of(which), found.objects, found.records);
     println!(rt; "{file}: opened again, {vans_found} vans in {records} records")?;
