@@ -15,6 +15,7 @@ use Rattle.book_lock.proofs.pass.Pass.TheSendSync as pass
 use Rattle.std.proofs.Crossing.{crosses, Box-send}
 use Rattle.book_lock.specs.contracts.pass.Pass as Pass
 use Rattle.sessions.proofs.store.lanes.KeptRow.TheSendSync as kept
+use Rattle.sessions.proofs.shared.Turn.TheSendSync as turn
 use Rattle.sessions.specs.contracts.store.Store as Store
 use Rattle.sessions.specs.contracts.store.lanes.Lane as Lane
 use Rattle.sessions.specs.contracts.shared.SharedBook as Shared
@@ -23,7 +24,7 @@ use Rattle.sessions.specs.contracts.shared.SharedBook.TheInside as inside
 pub shared_send : (I D O P : RattleType) (g : Ghosts I.Denot P.Denot) (h : DriveGhosts D.Denot) (k : StartGhosts O.Denot) → IsSend I → IsSend D → IsSend O → IsSend (Shared.the_row I D O P g h k)
 shared_send I D O P g h k i d o =
     view_send (inside.the_row I D O P g h k) _ _ _ _ (recorded_send (inside.the_field I D O P g h k).row _ _ (inside.the_type I D O P g h k).to_one
-    (struct_send (shape (inside.the_type I D O P g h k)) (Box-send _ (book_send I D P g h i d), (search (sendable, crosses) depth 20, (search (sendable, crosses) depth 8, tt)))))
+    (struct_send (shape (inside.the_type I D O P g h k)) (Box-send _ (book_send I D P g h i d), (search (sendable, crosses) depth 20, (search (sendable, crosses, turn.the_send) depth 20, (search (sendable, crosses) depth 8, tt))))))
 
 pub store_send : (I D O P : RattleType) (g : Ghosts I.Denot P.Denot) (h : DriveGhosts D.Denot) (k : StartGhosts O.Denot) → IsSend I → IsSend D → IsSend O → IsSend (Store.the_row I D O P g h k)
 store_send I D O P g h k i d o = search (sendable, shared_send, lock.the_send) depth 12

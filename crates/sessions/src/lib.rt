@@ -17,6 +17,8 @@
 //! | `close` | returns the book, whose history is what the last pass has seen |
 //! | `with_spare`, `close_with_spare` | begin and end a store that keeps the drive of a second file beside the book |
 //! | `put_spare`, `take_spare` | keep that drive, and return it, while a caller holds the book |
+//! | `keeps_spare` | whether a store began so |
+//! | `turn`, `set_turn` | say when the store goes over to that drive by itself |
 //!
 //! Contracts see the book without the second drive. They say that the log may be replaced if there is one.
 //!
@@ -36,6 +38,6 @@ mod start;
 mod store;
 
 pub use faults::{CallFault, Settled, Split};
-pub use shared::{SharedBook, WorldAt};
+pub use shared::{SharedBook, Turn, WorldAt};
 pub use start::Start;
 pub use store::{KeptRow, Lane, Store};

@@ -45,6 +45,19 @@ pub struct WorldAt {
     pub place: u64,
 }
 
+/// When a store goes over to its second file by itself, in numbers of log records.
+#[derive(Clone, Copy, Debug, PartialEq, Eq)]
+pub struct Turn {
+    /// How many records the program lets the log have.
+    pub most: u64,
+    /// The store goes over at the next look that finds more than so many.
+    pub due: u64,
+}
+
+/// How many records a log may have unless the program says otherwise: four for each of the most objects that a store may
+/// have.
+const MOST_RECORDS: u64 = 1 << 22;
+
 /// A book whose objects are a world. `O` is what is known of the drive over which its log was opened.
 #[derive(Drop)]
 pub struct SharedBook<I: Index, D: LogDisk, O: Start> {
@@ -52,6 +65,7 @@ pub struct SharedBook<I: Index, D: LogDisk, O: Start> {
     book: Box<Book<I, D>>,
     /// The drive of a second file, over which the store may continue. Contracts see the book alone.
     spare: Option<D>,
+    turn: Turn,
     start: PhantomData<O>,
 }
 
@@ -96,6 +110,10 @@ impl<I: Index, D: LogDisk, O: Start> SharedBook<I, D, O> {
             Ok(book) => Ok(SharedBook {
                 book,
                 spare: None,
+                turn: Turn {
+                    most: MOST_RECORDS,
+                    due: MOST_RECORDS,
+                },
                 start: PhantomData,
             }),
             Err(AllocFailed { value }) => Err(value),
@@ -120,6 +138,7 @@ impl<I: Index, D: LogDisk, O: Start> SharedBook<I, D, O> {
         let SharedBook {
             book,
             spare,
+            turn: _,
             start: _,
         } = self;
         (Box::into_inner(book), spare)
@@ -141,7 +160,7 @@ impl<I: Index, D: LogDisk, O: Start> SharedBook<I, D, O> {
     }
 
     /// As the book's call of this name.
-    pub(crate) fn closed(&self) -> Option<u64>
+    pub fn closed(&self) -> Option<u64>
         ensures closed { result ≡ failed_cell self.now.entries }
         ensures book { IsBook D.drive I.WIDTH self.now }
     {
@@ -309,7 +328,7 @@ impl<I: Index, D: LogDisk, O: Start> SharedBook<I, D, O> {
     }
 
     /// As the book's call of this name.
-    pub(crate) fn sync(&mut self) -> Result<u64, BookFault>
+    pub fn sync(&mut self) -> Result<u64, BookFault>
         ensures ok { IfOk result (Syncs self.old self.new) }
         ensures refused { IsRefusedBy IsMemoryOrDisk (call_refusal self.old.kept self.old.entries) result }
         ensures err { IfErr result (LeavesRefused D.drive lost_sync self.old self.new) }
@@ -376,6 +395,18 @@ impl<I: Index, D: LogDisk, O: Start> SharedBook<I, D, O> {
         ensures moves { IfSome result (λ _. moves_in self.old.log ≡ true) }
     {
         self.spare.take()
+    }
+
+    /// When the store goes over to its second file by itself.
+    pub fn turn(&self) -> Turn {
+        self.turn
+    }
+
+    /// Sets when the store goes over to its second file by itself.
+    pub fn set_turn(&mut self, turn: Turn)
+        ensures { self.new ≡ self.old }
+    {
+        self.turn = turn;
     }
 
     /// As the book's call of this name.

@@ -32,6 +32,7 @@ use std::sync::Wait;
 /// A book for many threads.
 pub struct Store<I: Index, D: LogDisk, O: Start> {
     lock: BookLock<SharedBook<I, D, O>>,
+    keeps_spare: bool,
 }
 
 impl<I: Index, D: LogDisk, O: Start> Model for Store<I, D, O> {
@@ -64,7 +65,13 @@ impl<I: Index, D: LogDisk, O: Start> Store<I, D, O> {
     {
         let shared = SharedBook::of(alloc, book)?;
         match BookLock::new(alloc, shared) {
-            Ok((lock, pass)) => Ok((Store { lock }, pass)),
+            Ok((lock, pass)) => {
+                let store = Store {
+                    lock,
+                    keeps_spare: false,
+                };
+                Ok((store, pass))
+            }
             Err(shared) => Err(shared.into_book()),
         }
     }
@@ -92,8 +99,9 @@ impl<I: Index, D: LogDisk, O: Start> Store<I, D, O> {
         ensures back { IfErr result (λ r. (r.0 ≡ book) × (r.1 ≡ spare)) }
     {
         match Store::new(alloc, book) {
-            Ok((store, mut pass)) => {
+            Ok((mut store, mut pass)) => {
                 store.keep_spare(rt, &mut pass, spare);
+                store.keeps_spare = true;
                 Ok((store, pass))
             }
             Err(book) => Err((book, spare)),

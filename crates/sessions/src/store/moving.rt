@@ -5,7 +5,7 @@ ghost use Rattle.sessions.specs.Shared.{StartsAs, moves_of, origin_of};
 ghost use Rattle.sessions.specs.Steps.{MayGive, WasTaken, has_given};
 
 use super::Store;
-use crate::shared::SharedBook;
+use crate::shared::{SharedBook, Turn};
 use crate::start::Start;
 use book_lock::Pass;
 use disk_trait::LogDisk;
@@ -42,6 +42,11 @@ impl<I: Index, D: LogDisk, O: Start> Store<I, D, O> {
         self.put_back(pass, book, grown);
     }
 
+    /// Whether the store began with the drive of a second file. The call needs no lock.
+    pub fn keeps_spare(&self) -> bool {
+        self.keeps_spare
+    }
+
     /// Keeps the drive of a second file beside the book. A drive that was kept before is dropped.
     pub(crate) fn keep_spare<R: Wait>(&self, rt: &R, pass: &mut Pass<SharedBook<I, D, O>>, spare: D)
         requires lock { pass.old.lock ≡ self.now }
@@ -51,6 +56,17 @@ impl<I: Index, D: LogDisk, O: Start> Store<I, D, O> {
     {
         let mut book = self.take(rt, pass);
         let _before = book.put_spare(spare);
+        self.put_back(pass, book, false);
+    }
+
+    /// Sets when the store goes over to its second file by itself.
+    pub fn set_turn<R: Wait>(&self, rt: &R, pass: &mut Pass<SharedBook<I, D, O>>, turn: Turn)
+        requires lock { pass.old.lock ≡ self.now }
+        requires off { pass.old.holds ≡ false }
+        ensures { HasLooked pass.old pass.new }
+    {
+        let mut book = self.take(rt, pass);
+        book.set_turn(turn);
         self.put_back(pass, book, false);
     }
 }
