@@ -15,3 +15,8 @@ pub mod Between
 pub mod Fewest
 pub mod RefusedFacts
 pub mod Turned
+mod EitherFinds
+mod DurablePart
+mod BookCells
+pub mod AtReply
+pub mod WhileMoved

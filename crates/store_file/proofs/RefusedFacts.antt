@@ -1,5 +1,5 @@
 -- Why an opening is refused, whatever it returns otherwise.
-use Rattle.std.proofs.Common.{ℕ, List, Result, Ok, Err}
+use Rattle.std.proofs.Common.{ℕ, List, Ok, Err}
 use Rattle.disk_trait.specs.Drive.{Drive}
 use Rattle.store_file.specs.declared.faults.NotOpened.{NotOpened}
 use Rattle.store_file.specs.declared.faults.NotEither.{NotEither}

@@ -11,6 +11,7 @@ pub mod Waiting
 pub mod Rotating
 pub mod Ended
 pub mod Moving
+pub mod Crashes
 pub use Rattle.recovery.specs.Opening
 pub use Rattle.recovery.specs.Calls
 pub use Rattle.recovery.specs.Faults

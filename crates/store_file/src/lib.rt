@@ -24,7 +24,7 @@
 //!   fresh logs have replaced the log (`ClosesMoved`; `finds-moved`, proofs/MovedAgain).
 //! - `rotate_above` continues a store over its second file inside a call, if its log has more than so many records. The
 //!   history goes on, and other callers only wait (`MovesOver`). If a drive fails, the store takes no more calls
-//!   (`StopsStore`).
+//!   (`StopsStore`). `tend` does so if the store is due (`Turn`), and is what the calls of a client do now and then.
 //!
 //! Not here: the calls of a store (`sessions`), and shorter calls (`store_client`).
 #![tactic(auto)]
@@ -45,7 +45,7 @@ mod waiting;
 pub use closing::{ClosedStore, close_over, close_store};
 pub use either::{OpenedEither, Which, open_either, open_either_at_sync};
 pub use faults::{EitherCause, NotEither, NotOpened, OpenCause};
-pub use moving::{NotRotatedOver, Rotation, StayCause, rotate_above};
+pub use moving::{NotRotatedOver, Rotation, StayCause, rotate_above, tend};
 pub use objects::latest_of;
 pub use opening::{LEAST_BUCKET, MOST_BUCKET, OpenedStore, open_at_sync, open_over, open_store};
 pub use rotating::{NotRotated, RotateCause, Rotated, rotate_anew, rotate_store};

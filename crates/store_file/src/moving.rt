@@ -7,8 +7,9 @@ ghost use Rattle.commit_book.specs.OpenedLog.{IsOpenedLog};
 ghost use Rattle.commit_book.specs.Refusals.{call_refusal};
 ghost use Rattle.commit_book.specs.RoomLeft.{cells_where};
 ghost use Rattle.commit_book.specs.Rotation.{HasContent};
-ghost use Rattle.store_file.specs.Moving.{IsStopped, LeavesUnbegun, NotReplaced, NotTaken, Replaces, TakesOver};
-ghost use Rattle.store_file.specs.Moving.{RotatesAbove, RotatesBook, has_stopped, rotation_of, stay_cause};
+ghost use Rattle.commit_book.specs.Moves.{may_move_refusal};
+ghost use Rattle.store_file.specs.Moving.{AfterSync, HasRoom, IsStopped, LeavesUnbegun, NotReplaced, NotTaken, NotTurned, Replaces};
+ghost use Rattle.store_file.specs.Moving.{RotatesAbove, TakesOver, Tends, TurnsBook, has_stopped, rotation_of, stay_cause};
 
 use crate::rotating::{BeginCause, NotBegun, RotateCause, begin_with};
 use book_lock::Pass;
@@ -17,7 +18,7 @@ use disk_trait::LogDisk;
 use index_layer::Index;
 use log_compact::{NotCleared, clear_log};
 use recovery::Opened;
-use sessions::{SharedBook, Start, Store};
+use sessions::{SharedBook, Start, Store, Turn};
 use split_log::MOST_CELLS;
 use std::sync::Wait;
 use thiserror::Error;
@@ -53,6 +54,10 @@ pub enum NotRotatedOver {
     /// The store goes on over its own file, and keeps its second file.
     #[error("{cause}")]
     Stays { cause: StayCause },
+    /// The first drive failed while the records that waited for a sync were written. Nothing was written to the second
+    /// file. The store takes no more calls. Close it, drop the drives, and open both files again.
+    #[error("the drive failed while the records that waited were written")]
+    Unsynced,
     /// The second drive failed, so its file may have all objects. Nothing may be appended to the first log while it has
     /// them, so the store takes no more calls. Close it, drop the drives, and open both files again.
     #[error("the second drive failed")]
@@ -68,6 +73,8 @@ pub enum NotRotatedOver {
 pub(crate) enum NotMovedOver<D: Drop> {
     /// The second drive, on which nothing was written.
     Stays { spare: D, cause: StayCause },
+    /// The second drive, on which nothing was written. The first drive failed while the records that waited were written.
+    Unsynced { spare: D },
     /// The second drive. It failed, or has a log that did not replace the book's log.
     SpareFailed { spare: D },
     /// The first drive, which failed while its log was emptied.
@@ -76,8 +83,9 @@ pub(crate) enum NotMovedOver<D: Drop> {
 
 /// Continues a store over its second file, if its log has more than so many records. It does so inside a call: other
 /// callers wait meanwhile, and nobody is joined. The history and the places go on. The second file has at most 17 bytes.
-/// The objects and leaves are written and synced there as a fresh log, which then replaces the store's log. Then the first
-/// log is emptied, and the first file is the second one from now on, ready for the next time.
+/// First the records that wait for a sync are written, if any do: so a crash finds the same objects in either log. The
+/// objects and leaves are written and synced to the second file as a fresh log, which then replaces the store's log. Then
+/// the first log is emptied, and the first file is the second one from now on, ready for the next time.
 ///
 /// After a failure the drive that failed is kept as that of the second file, so that the close returns it.
 pub fn rotate_above<I: Index, D: LogDisk, O: Start, R: Wait>(
@@ -97,6 +105,27 @@ pub fn rotate_above<I: Index, D: LogDisk, O: Start, R: Wait>(
     rotated
 }
 
+/// Continues a store over its second file, if it is due: as `rotate_above`, with the number of records that the store's
+/// `Turn` has. It is what a call of a client does now and then. `Some` says that the store was stopped, and at which record.
+/// The next calls say so too.
+pub fn tend<I: Index, D: LogDisk, O: Start, R: Wait>(
+    rt: &R,
+    store: &Store<I, D, O>,
+    pass: &mut Pass<SharedBook<I, D, O>>,
+) -> Option<u64>
+    requires lock { pass.old.lock ≡ store.now }
+    requires off { pass.old.holds ≡ false }
+    ensures { Tends D.drive I.WIDTH pass.old pass.new result }
+{
+    let mut book = store.hold(rt, pass);
+    let records = book.turn().due;
+    let rotated = rotate_book(&mut book, records);
+    let grown = has_stopped(&rotated);
+    let lost = if grown { book.closed() } else { None };
+    store.release(pass, book, grown);
+    lost
+}
+
 // Whether the book was stopped.
 fn has_stopped(rotated: &Result<Rotation, NotRotatedOver>) -> bool
     ensures { result ≡ has_stopped rotated.now }
@@ -104,6 +133,7 @@ fn has_stopped(rotated: &Result<Rotation, NotRotatedOver>) -> bool
     match rotated {
         Ok(_) => false,
         Err(NotRotatedOver::Stays { .. }) => false,
+        Err(NotRotatedOver::Unsynced) => true,
         Err(NotRotatedOver::SpareFailed) => true,
         Err(NotRotatedOver::FirstFailed) => true,
     }
@@ -114,7 +144,7 @@ fn rotate_book<I: Index, D: LogDisk, O: Start>(
     book: &mut SharedBook<I, D, O>,
     records: u64,
 ) -> Result<Rotation, NotRotatedOver>
-    ensures rotates { RotatesBook D.drive I.WIDTH records book.old book.new result }
+    ensures turns { TurnsBook D.drive I.WIDTH records book.old book.new result }
     ensures book { IsBook D.drive I.WIDTH book.old }
 {
     let Some(has) = records_of(book) else {
@@ -127,7 +157,23 @@ fn rotate_book<I: Index, D: LogDisk, O: Start>(
         return Ok(Rotation::NoSpare);
     };
     let moved = move_book(book, spare);
-    keep_spare(book, moved)
+    let rotated = keep_spare(book, moved);
+    let left = records_of(book).unwrap_or(has);
+    book.set_turn(turn_after(book.turn(), left, &rotated));
+    rotated
+}
+
+// When a store goes over again whose log has so many records after a try. A fresh log may grow to twice its size at least.
+// After a refusal the log grows by an eighth of what the program allows before the next try.
+fn turn_after(turn: Turn, records: u64, rotated: &Result<Rotation, NotRotatedOver>) -> Turn {
+    let due = match rotated {
+        Ok(_) => turn.most.max(records.saturating_mul(2)),
+        Err(_) => records.saturating_add(turn.most / 8),
+    };
+    Turn {
+        most: turn.most,
+        due,
+    }
 }
 
 // How many records the log of a book has, those that wait among them, or `None` without a log.
@@ -151,6 +197,7 @@ fn keep_spare<I: Index, D: LogDisk, O: Start>(
     let (spare, rotation) = match moved {
         Ok(first) => (first, Ok(Rotation::Done)),
         Err(NotMovedOver::Stays { spare, cause }) => (spare, Err(NotRotatedOver::Stays { cause })),
+        Err(NotMovedOver::Unsynced { spare }) => (spare, Err(NotRotatedOver::Unsynced)),
         Err(NotMovedOver::SpareFailed { spare }) => (spare, Err(NotRotatedOver::SpareFailed)),
         Err(NotMovedOver::FirstFailed { disk }) => (disk, Err(NotRotatedOver::FirstFailed)),
     };
@@ -159,14 +206,14 @@ fn keep_spare<I: Index, D: LogDisk, O: Start>(
     rotation
 }
 
-// Writes a fresh log of a book on the second drive, and lets it replace the book's log.
+// Writes the records that wait, writes a fresh log of the book on the second drive, and lets it replace the book's log.
 fn move_book<I: Index, D: LogDisk, O: Start>(
     book: &mut SharedBook<I, D, O>,
     spare: D,
 ) -> Result<D, NotMovedOver<D>>
     requires moves { moves_in book.old.log ≡ true }
-    ensures moved { IfOk result (λ first. Replaces D.drive I.WIDTH Clears book.old book.new spare first) }
-    ensures not { IfErr result (λ e. NotReplaced D.drive I.WIDTH book.old book.new spare e) }
+    ensures moved { IfOk result (λ first. AfterSync D.drive I.WIDTH book.old (λ mid. Replaces D.drive I.WIDTH Clears mid book.new spare first)) }
+    ensures not { IfErr result (λ e. NotTurned D.drive I.WIDTH book.old book.new spare e) }
 {
     // A book that keeps the list of its entries has no more room, and might lack memory for `stop`.
     if book.room().entries <= MOST_EVENTS {
@@ -177,6 +224,29 @@ fn move_book<I: Index, D: LogDisk, O: Start>(
         let cause = stay_cause(&fault);
         return Err(NotMovedOver::Stays { spare, cause });
     }
+    match book.sync() {
+        Ok(_) => move_synced(book, spare),
+        Err(BookFault::Disk { .. }) => Err(NotMovedOver::Unsynced { spare }),
+        Err(_) => Err(NotMovedOver::Stays {
+            spare,
+            cause: StayCause::Refused {
+                cause: RotateCause::Memory,
+            },
+        }),
+    }
+}
+
+// Writes a fresh log of a book, none of whose records wait, on the second drive, and lets it replace the book's log.
+fn move_synced<I: Index, D: LogDisk, O: Start>(
+    book: &mut SharedBook<I, D, O>,
+    spare: D,
+) -> Result<D, NotMovedOver<D>>
+    requires moves { moves_in book.old.log ≡ true }
+    requires room { HasRoom book.old }
+    requires may { may_move_refusal I.WIDTH book.old ≡ None }
+    ensures moved { IfOk result (λ first. Replaces D.drive I.WIDTH Clears book.old book.new spare first) }
+    ensures not { IfErr result (λ e. NotReplaced D.drive I.WIDTH book.old book.new spare e) }
+{
     let Ok(content) = book.content() else {
         let cause = StayCause::Refused {
             cause: RotateCause::Memory,
