@@ -13,12 +13,13 @@ use Rattle.sessions.specs.Opens.{leaves_seen, places_seen, listed_in, Opens, Ope
 use Rattle.sessions.specs.Splits.{SamePass}
 use Rattle.sessions.proofs.StepLemmas.{same-later}
 use Rattle.store_client.specs.Caller.{Caller, has_asked}
+use Rattle.store_client.specs.Tending.{OrStops}
 use Rattle.store_client.specs.Asked.{Asked, AskedCounted}
 use Rattle.store_client.specs.Verbs.{AskedAs}
 use Rattle.store_client.specs.declared.client.Reply.{Reply}
 
 module _ (w : ℕ) (op : Op) (old : Caller) (before now : ℕ) where
-  pub refuses : (new : Known) (fault : CallFault) → Called w old.session old.row op old.pass new (Err fault) → SamePass old.pass new → Opens op (leaves_seen w new) (places_seen new) None before now → OpensRefused fault before now
+  pub refuses : (new : Known) (fault : CallFault) → OrStops (Called w old.session old.row op old.pass new) old.pass new (Err fault) → SamePass old.pass new → Opens op (leaves_seen w new) (places_seen new) None before now → OpensRefused fault before now
       → AskedCounted w op old (has_asked old new old.place old.change) before now (Err fault)
   refuses new fault called same opened refused = record {
     asked = record { mid = new; told = Err fault; called = called; follows = (refl, refl); client = refl; same = same };

@@ -11,6 +11,7 @@ use Rattle.sessions.specs.declared.faults.Split.{Split}
 use Rattle.sessions.proofs.StepLemmas.{same-later}
 use Rattle.store_client.specs.Batches.{Applies, TriesSome, first_row, more_splits, row_after}
 use Rattle.store_client.specs.Caller.{Caller}
+use Rattle.store_client.specs.Tending.{OrStops}
 use Rattle.store_client.proofs.Splitting.{some-fewer}
 
 -- The operations are the batch's, and the rows are those that the client gives them.
@@ -21,11 +22,11 @@ module _ (w : ℕ) (batch : List Op) (old : Caller) (ops : List Op) (row next : 
   after-is : next ≡ row_after old.row (length batch)
   after-is = next_is ∙ ap (λ (l : List Op). row_after old.row (length l)) ops_are
 
-  pub batch-refused : (new : Known) (fault : CallFault) → Applied w old.session row ops old.pass new (Err fault) → SamePass old.pass new → Applies w batch old (record { pass = new; session = old.session; row = next; place = old.place; change = old.change }) (Err fault)
+  pub batch-refused : (new : Known) (fault : CallFault) → OrStops (Applied w old.session row ops old.pass new) old.pass new (Err fault) → SamePass old.pass new → Applies w batch old (record { pass = new; session = old.session; row = next; place = old.place; change = old.change }) (Err fault)
   batch-refused new fault applied same = record {
     mid = new;
     told = Err fault;
-    applied = subst (λ (z : ℕ × List Op). Applied w old.session z.0 z.1 old.pass new (Err fault)) (λ i. (first-is i, ops_are i)) applied;
+    applied = subst (λ (z : ℕ × List Op). OrStops (Applied w old.session z.0 z.1 old.pass new) old.pass new (Err fault)) (λ i. (first-is i, ops_are i)) applied;
     follows = (refl, refl);
     client = λ i. record { pass = new; session = old.session; row = after-is i; place = old.place; change = old.change };
     same = same;

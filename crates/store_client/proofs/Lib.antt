@@ -1,3 +1,4 @@
+pub mod Tended
 pub mod Asks
 pub mod Batched
 pub mod Changed

@@ -23,10 +23,11 @@ use Rattle.book_lock.specs.Pass.{Known}
 use Rattle.book_lock.specs.declared.origin.Origin.{Origin}
 use Rattle.commit_book.specs.declared.book.Done.{Done}
 use Rattle.sessions.specs.declared.faults.CallFault.{CallFault}
-use Rattle.sessions.specs.Calls.{CallLeaves}
+use Rattle.sessions.specs.Calls.{Called}
 use Rattle.store_client.specs.declared.client.Reply.{Reply}
 use Rattle.store_client.specs.Caller.{Caller}
-use Rattle.store_client.specs.Asked.{Asked, Follows}
+use Rattle.store_client.specs.Asked.{Asked, Follows, before_call, before_in}
+use Rattle.store_client.specs.Tending.{OrStops}
 use Rattle.store_client.specs.Objects.{may_change, may_remove, HasNone, FindsBehind}
 
 -- what is kept of an object behind a move of this one
@@ -182,13 +183,13 @@ record IsAnsweredAt (session row : ℕ) (op : Op) (old mid : Known) (before : Li
   answer_is : told ≡ answer_of (world_after old.origin.world before) op
   seen_is : mid.seen ≡ before ++ Call session row op ∷ []
 
-answered-at : (w : ℕ) (op : Op) (old new : Caller) (reply : Reply) (asked : Asked w op old new (Ok reply)) → IsAnsweredAt old.session old.row op old.pass asked.mid asked.called.before reply.answer
-answered-at w op old new reply asked = by_told asked.told asked.called.leaves asked.follows
+answered-at : (w : ℕ) (op : Op) (old new : Caller) (reply : Reply) (asked : Asked w op old new (Ok reply)) → IsAnsweredAt old.session old.row op old.pass asked.mid (before_in asked) reply.answer
+answered-at w op old new reply asked = by_told asked.told asked.called asked.follows
   where
-    by_told : (told : Result Done CallFault) → CallLeaves w old.session old.row op old.pass asked.called.before asked.mid told → Follows w asked.mid new.pass told (Ok reply)
-        → IsAnsweredAt old.session old.row op old.pass asked.mid asked.called.before reply.answer
-    by_told (Ok done) leaves follows = record { answer_is = follows.1 ∙ leaves.1.replies.answer_is; seen_is = ap (λ (k : Known). k.seen) leaves.0 }
-    by_told (Err fault) leaves follows = absurd follows
+    by_told : (told : Result Done CallFault) (called : OrStops (Called w old.session old.row op old.pass asked.mid) old.pass asked.mid told) → Follows w asked.mid new.pass told (Ok reply)
+        → IsAnsweredAt old.session old.row op old.pass asked.mid (before_call w old.session old.row op old.pass asked.mid told called) reply.answer
+    by_told (Ok done) called follows = record { answer_is = follows.1 ∙ called.leaves.1.replies.answer_is; seen_is = ap (λ (k : Known). k.seen) called.leaves.0 }
+    by_told (Err fault) called follows = absurd follows
 
 -- the world behind an answered call, and what came after it
 behind : (origin : Origin) (session row : ℕ) (op : Op) (before between all seen : List Entry) → seen ≡ before ++ Call session row op ∷ [] → all ≡ seen ++ between
@@ -200,17 +201,17 @@ behind origin session row op before between all seen seen_is all_is =
 
 -- Two calls of a store, the second a find behind the first, and what stands between them.
 module _ (w id : ℕ) (op : Op) (old mid now later : Caller) (first second : Reply) (changed_by : Asked w op old mid (Ok first)) (found : Asked w (Find id) now later (Ok second)) (one : now.pass.origin ≡ old.pass.origin)
-    (between : List Entry) (stands : found.called.before ≡ changed_by.mid.seen ++ between) where
-  found-in : second.answer ≡ answer_of (world_after (after_of (world_after old.pass.origin.world changed_by.called.before) op) between) (Find id)
+    (between : List Entry) (stands : (before_in found) ≡ changed_by.mid.seen ++ between) where
+  found-in : second.answer ≡ answer_of (world_after (after_of (world_after old.pass.origin.world (before_in changed_by)) op) between) (Find id)
   found-in =
       let put_call = answered-at w op old mid first changed_by in
       let find_call = answered-at w (Find id) now later second found in
-      find_call.answer_is ∙ ap (λ (o : Origin). answer_of (world_after o.world found.called.before) (Find id)) one
-      ∙ ap (λ l. answer_of l (Find id)) (behind old.pass.origin old.session old.row op changed_by.called.before between found.called.before changed_by.mid.seen put_call.seen_is stands)
+      find_call.answer_is ∙ ap (λ (o : Origin). answer_of (world_after o.world (before_in found)) (Find id)) one
+      ∙ ap (λ l. answer_of l (Find id)) (behind old.pass.origin old.session old.row op (before_in changed_by) between (before_in found) changed_by.mid.seen put_call.seen_is stands)
 
   -- where the first call put the object, and nothing between may have changed it, it is found there
-  stays-at : (kept : Stamped) → position_of (after_of (world_after old.pass.origin.world changed_by.called.before) op) id ≡ Some kept → HasNone (may_change id) between → second.answer ≡ answer.At kept
-  stays-at kept there none = found-in ∙ ap (λ o. option_map_or answer.At o answer.Absent) (kept-after id (after_of (world_after old.pass.origin.world changed_by.called.before) op) between none ∙ there)
+  stays-at : (kept : Stamped) → position_of (after_of (world_after old.pass.origin.world (before_in changed_by)) op) id ≡ Some kept → HasNone (may_change id) between → second.answer ≡ answer.At kept
+  stays-at kept there none = found-in ∙ ap (λ o. option_map_or answer.At o answer.Absent) (kept-after id (after_of (world_after old.pass.origin.world (before_in changed_by)) op) between none ∙ there)
 
 -- An object that nobody else changed since is where a client's own move put it, whatever else happened.
 pub own-move-stands : (w id : ℕ) (at : Point) (moment : ℕ) (from : Stamped) (old mid now later : Caller) (first second : Reply) → FindsBehind w id (Move id at moment) (may_change id) old mid now later first second
@@ -218,7 +219,7 @@ pub own-move-stands : (w id : ℕ) (at : Point) (moment : ℕ) (from : Stamped) 
 own-move-stands w id at moment from old mid now later first second behind_it told =
     let call = answered-at w (Move id at moment) old mid first behind_it.call in
     stays-at w id (Move id at moment) old mid now later first second behind_it.call behind_it.finds behind_it.one behind_it.between behind_it.stands (record { at = at; moment = moment })
-    (moved-at (world_after old.pass.origin.world behind_it.call.called.before) id at moment from (sym call.answer_is ∙ told)) behind_it.none
+    (moved-at (world_after old.pass.origin.world (before_in behind_it.call)) id at moment from (sym call.answer_is ∙ told)) behind_it.none
 
 -- the same of its own put
 pub own-put-stands : (w id : ℕ) (at : Point) (moment : ℕ) (old mid now later : Caller) (first second : Reply) → FindsBehind w id (Put id at moment) (may_change id) old mid now later first second
@@ -226,13 +227,13 @@ pub own-put-stands : (w id : ℕ) (at : Point) (moment : ℕ) (old mid now later
 own-put-stands w id at moment old mid now later first second behind_it told =
     let call = answered-at w (Put id at moment) old mid first behind_it.call in
     stays-at w id (Put id at moment) old mid now later first second behind_it.call behind_it.finds behind_it.one behind_it.between behind_it.stands (record { at = at; moment = moment })
-    (put-at (world_after old.pass.origin.world behind_it.call.called.before) id at moment (sym call.answer_is ∙ told)) behind_it.none
+    (put-at (world_after old.pass.origin.world (before_in behind_it.call)) id at moment (sym call.answer_is ∙ told)) behind_it.none
 
 -- Over two finds of an object that nobody removed between them, its moment doesn't fall.
 pub moments-rise : (w id : ℕ) (a b : Stamped) (old mid now later : Caller) (first second : Reply) → FindsBehind w id (Find id) (may_remove id) old mid now later first second
     → first.answer ≡ answer.At a → second.answer ≡ answer.At b → a.moment ≤ b.moment
 moments-rise w id a b old mid now later first second behind_it told_a told_b =
-    let world = world_after old.pass.origin.world behind_it.call.called.before in
+    let world = world_after old.pass.origin.world (before_in behind_it.call) in
     let here : position_of world id ≡ Some a = found-at a (position_of world id) (sym (answered-at w (Find id) old mid first behind_it.call).answer_is ∙ told_a) in
     let has : HasSince a.moment (position_of world id) = subst (HasSince a.moment) (sym here) (omega arith) in
     let still : HasSince a.moment (position_of (after_of world (Find id)) id) = after-either world id (λ after. HasSince a.moment (position_of after id)) (Find id) has (λ is. has) in

@@ -14,6 +14,7 @@ use Rattle.sessions.specs.Splits.{SamePass, SplitEnds}
 use Rattle.sessions.specs.declared.faults.CallFault.{CallFault}
 use Rattle.sessions.specs.declared.faults.Split.{Split}
 use Rattle.store_client.specs.Caller.{Caller}
+use Rattle.store_client.specs.Tending.{OrStops}
 use Rattle.store_client.specs.declared.batch.NotAdded.{NotAdded}
 use Rattle.store_client.specs.declared.batch.NotAdded.TheVariants.{TooLong, Memory}
 use Rattle.store_client.specs.declared.batches.Replies.{Replies}
@@ -82,11 +83,11 @@ abbrev pub has_applied : Caller → ℕ → Known → ℕ → Option Change → 
 has_applied old count pass place change = record { pass = pass; session = old.session; row = row_after old.row count; place = place; change = change }
 
 -- What a client promises of a batch: what the store returned, the pass after that, and the split after it. Nothing else
--- changed.
+-- changed. Before the batch the client may have let the store continue over its second file, as before a call.
 pub record Applies (w : ℕ) (ops : List Op) (old new : Caller) (result : Result Replies CallFault) : Type 0 where
   pub mid : Known
   pub told : Result BatchDone CallFault
-  pub applied : Applied w old.session (first_row old.row (length ops)) ops old.pass mid told
+  pub applied : OrStops (Applied w old.session (first_row old.row (length ops)) ops old.pass mid) old.pass mid told
   pub follows : FollowsAll w (length ops) mid new.pass told result
   pub client : new ≡ has_applied old (length ops) new.pass (place_after old.place result) (change_after old.change result)
   pub same : SamePass old.pass new.pass

@@ -1,4 +1,5 @@
 pub mod Caller
+pub mod Tending
 pub mod Asked
 pub mod Batches
 pub mod Verbs

@@ -6,7 +6,7 @@ use Rattle.plain_list.specs.declared.entries.Entry.{Entry}
 use Rattle.plain_list.specs.declared.entries.Entry.TheVariants.{Fail, Call, Begin, Install, Abandon}
 use Rattle.store_client.specs.declared.client.Reply.{Reply}
 use Rattle.store_client.specs.Caller.{Caller}
-use Rattle.store_client.specs.Asked.{Asked}
+use Rattle.store_client.specs.Asked.{Asked, before_in}
 
 -- Whether an operation may change this object.
 abbrev pub may_change : ℕ → Op → Bool
@@ -43,5 +43,5 @@ pub record FindsBehind (w id : ℕ) (op : Op) (may : Op → Bool) (old mid now l
   pub finds : Asked w (Find id) now later (Ok second)
   pub one : now.pass.origin ≡ old.pass.origin
   pub between : List Entry
-  pub stands : finds.called.before ≡ call.mid.seen ++ between
+  pub stands : before_in finds ≡ call.mid.seen ++ between
   pub none : HasNone may between

@@ -6,6 +6,7 @@ ghost use Rattle.store_client.specs.Caller.{IsFree, Keeps};
 
 use crate::batch::Batch;
 use crate::client::{Client, try_split};
+use crate::tending::tend_and_apply;
 use book_lock::Pass;
 use disk_trait::LogDisk;
 use index_layer::Index;
@@ -94,7 +95,7 @@ impl<'s, I: Index, D: LogDisk, O: Start> Client<'s, I, D, O> {
         let (row, next) = rows_of(self.row, ops.len());
         self.row = next;
         let pass = &mut self.pass;
-        let done = match store.apply(rt, alloc, pass, session, row, ops) {
+        let done = match tend_and_apply(rt, alloc, store, pass, session, row, ops) {
             Ok(done) => done,
             Err(fault) => return Err(fault),
         };

@@ -12,6 +12,7 @@ ghost use Rattle.store_client.specs.Caller.{IsFree, Keeps, IsNearEnd, world_seen
 ghost use Rattle.store_client.specs.Asked.{Asked, AskedCounted};
 
 use crate::limits::has_no_room;
+use crate::tending::tend_and_call;
 use book_lock::Pass;
 use commit_book::Room;
 use disk_trait::LogDisk;
@@ -230,7 +231,7 @@ impl<'s, I: Index, D: LogDisk, O: Start> Client<'s, I, D, O> {
         let (store, alloc, session, row) = (self.store, self.alloc, self.session, self.row);
         self.row = row.saturating_add(1);
         let pass = &mut self.pass;
-        let done = match store.call(rt, alloc, pass, session, row, op, &OpenGate, steps) {
+        let done = match tend_and_call(rt, alloc, store, pass, session, row, op, steps) {
             Ok(done) => done,
             Err(fault) => return Err(fault),
         };

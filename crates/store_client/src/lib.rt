@@ -37,6 +37,7 @@ mod rotating;
 mod service;
 mod shares;
 mod syncing;
+mod tending;
 mod verbs;
 
 pub use answers::{
@@ -55,3 +56,4 @@ pub use limits::{
 pub use plain_list::Change;
 pub use pool::{Lender, Pool};
 pub use service::Service;
+pub use tending::{tend_and_apply, tend_and_call};
