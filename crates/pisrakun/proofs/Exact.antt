@@ -39,6 +39,7 @@ use Rattle.store_file.specs.Moving.{RotatesAbove}
 use Rattle.store_client.specs.Asked.{Asked, Follows}
 use Rattle.store_client.specs.Batches.{Applies, FollowsAll, TriesEach, first_row}
 use Rattle.store_client.specs.Caller.{Caller, world_seen}
+use Rattle.store_client.specs.Tending.{OrStops, StopsFor}
 use Rattle.store_client.specs.declared.batches.Replies.{Replies}
 use Rattle.store_client.specs.declared.client.Reply.{Reply}
 use Rattle.pisrakun.specs.Now.{DoesAllNow, DoesNow}
@@ -144,16 +145,22 @@ refused-same w session row op old new (call.Memory None) all called = seen old n
 refused-same w session row op old new (call.Memory (Some place)) all called =
     added old new called.before (Call session row op) (called.alone all) (query_keeps op (world_seen old) (is-query op _ place called.answered)) called.leaves.0
 
+-- a store that was stopped before a call sees the same objects
+stops-same : (old new : Known) (fault : CallFault) → old.parts ≡ all_parts → StopsFor old new fault → SeesSame old new
+stops-same old new fault all (cell, is, stops) = added old new stops.before (Fail stops.number stops.lost) (stops.alone all) refl stops.added
+
 module _ (w : ℕ) (op : Op) (old new : Caller) (all : old.pass.parts ≡ all_parts) where
-  by-told : (mid : Known) (told : Result Done CallFault) (result : Result Reply CallFault) → Called w old.session old.row op old.pass mid told → Follows w mid new.pass told result → DoesNow (λ (reply : Reply). reply.answer) op old new result
+  by-told : (mid : Known) (told : Result Done CallFault) (result : Result Reply CallFault) → OrStops (Called w old.session old.row op old.pass mid) old.pass mid told → Follows w mid new.pass told result → DoesNow (λ (reply : Reply). reply.answer) op old new result
   by-told mid (Ok done) (Ok reply) called follows =
       let here = called.alone all in
       let parts : mid.parts ≡ all_parts = ap (λ (k : Known). k.parts) called.leaves.0 ∙ all in (
         follows.1 ∙ called.leaves.1.replies.answer_is ∙ ap (λ (h : List Entry). answer_of (world_after old.pass.origin.world h) op) here,
         (tries-same w done.full mid new.pass reply.split parts follows.2).world ∙ world-added old.pass mid called.before (Call old.session old.row op) here called.leaves.0,
       )
-  by-told mid (Err fault) (Err told) called follows =
+  by-told mid (Err fault) (Err told) (inl called) follows =
       ap world_seen follows.1 ∙ (refused-same w old.session old.row op old.pass mid fault all called).world
+  by-told mid (Err fault) (Err told) (inr stops) follows =
+      ap world_seen follows.1 ∙ (stops-same old.pass mid fault all stops).world
   by-told mid (Ok done) (Err told) called follows = absurd follows
   by-told mid (Err fault) (Ok reply) called follows = absurd follows
 
@@ -187,7 +194,7 @@ batch-refused-same w session row ops old new call.LogFull all applied = (seen ol
 batch-refused-same w session row ops old new (call.Memory place) all applied = (seen old new applied.before (applied.alone all) applied.leaves).world
 
 module _ (w : ℕ) (ops : List Op) (old new : Caller) (all : old.pass.parts ≡ all_parts) where
-  batch-by-told : (mid : Known) (row : ℕ) (told : Result BatchDone CallFault) (result : Result Replies CallFault) → Applied w old.session row ops old.pass mid told → FollowsAll w (length ops) mid new.pass told result → DoesAllNow ops old new result
+  batch-by-told : (mid : Known) (row : ℕ) (told : Result BatchDone CallFault) (result : Result Replies CallFault) → OrStops (Applied w old.session row ops old.pass mid) old.pass mid told → FollowsAll w (length ops) mid new.pass told result → DoesAllNow ops old new result
   batch-by-told mid row (Ok done) (Ok replies) applied (place, answers, next, tries, some) =
       let here = applied.alone all in
       let parts : mid.parts ≡ all_parts = ap (λ (k : Known). k.parts) applied.leaves.0 ∙ all in
@@ -196,8 +203,10 @@ module _ (w : ℕ) (ops : List Op) (old new : Caller) (all : old.pass.parts ≡ 
         answers ∙ applied.leaves.1.answers_are ∙ ap (λ (h : List Entry). answers_to (world_after old.pass.origin.world h) ops) here,
         two.world ∙ one.world ∙ all-added old.pass mid applied.before (batch_calls old.session row ops) here applied.leaves.0 ∙ batch_calls-world (world_seen old.pass) old.session row ops,
       )
-  batch-by-told mid row (Err fault) (Err told) applied follows =
+  batch-by-told mid row (Err fault) (Err told) (inl applied) follows =
       ap world_seen follows.1 ∙ batch-refused-same w old.session row ops old.pass mid fault all applied
+  batch-by-told mid row (Err fault) (Err told) (inr stops) follows =
+      ap world_seen follows.1 ∙ (stops-same old.pass mid fault all stops).world
   batch-by-told mid row (Ok done) (Err told) applied follows = absurd follows
   batch-by-told mid row (Err fault) (Ok replies) applied follows = absurd follows
 
@@ -225,5 +234,6 @@ rotates-same drive w records old new (Ok turned.Enough) all is = looked-same old
 rotates-same drive w records old new (Ok turned.NoSpare) all is = looked-same old new all is.looked
 rotates-same drive w records old new (Ok turned.Done) all is = looked-same old new all is.looked
 rotates-same drive w records old new (Err (over.Stays cause)) all is = looked-same old new all is.looked
+rotates-same drive w records old new (Err over.Unsynced) all is = syncs-same old new (Err (book.Disk is.cell)) all is.syncs
 rotates-same drive w records old new (Err over.SpareFailed) all is = added old new is.before.entries (Fail is.cell lost_stop) (is.alone all) refl is.added
 rotates-same drive w records old new (Err over.FirstFailed) all is = added old new is.before.entries (Fail is.cell lost_stop) (is.alone all) refl is.added

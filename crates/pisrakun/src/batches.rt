@@ -8,7 +8,7 @@ use disk_trait::LogDisk;
 use index_layer::Index;
 use sessions::{CallFault, Start};
 use std::sync::Wait;
-use store_client::{Batch, Replies, more_splits, rows_of, split_some, try_split};
+use store_client::{Batch, Replies, more_splits, rows_of, split_some, tend_and_apply, try_split};
 
 impl<I: Index, D: LogDisk, O: Start> ObjectStore<I, D, O> {
     // Executes a batch, and then splits full leaves.
@@ -22,7 +22,7 @@ impl<I: Index, D: LogDisk, O: Start> ObjectStore<I, D, O> {
         let (row, next) = rows_of(self.row, ops.len());
         self.row = next;
         let (store, pass) = (&self.store, &mut self.pass);
-        let done = match store.apply(rt, alloc, pass, session, row, ops) {
+        let done = match tend_and_apply(rt, alloc, store, pass, session, row, ops) {
             Ok(done) => done,
             Err(fault) => return Err(fault),
         };

@@ -12,7 +12,7 @@
 //! | let threads share it | `work_all`, and a `Work` for each thread, which calls by a `Client` |
 //! | let threads take clients whenever they like | `pool`, and a `Service` for each thread, which calls by a `Guest` |
 //! | ask several questions of one moment | `view`, which returns a `View` |
-//! | let it continue over a second file, while others call | `RotatingStore::open_pair`, and `rotate_above` |
+//! | let it continue over a second file by itself, while others call | `RotatingStore::open_pair` |
 //! | do so by hand, with an empty history | `rotate`, and `or_kept` if it is refused |
 //! | watch fences | `Fences`, `Tally`, and `last_change` after each call |
 //!

@@ -11,7 +11,6 @@ use crate::label::Label;
 use book_lock::Pass;
 use disk_trait::LogDisk;
 use index_layer::Index;
-use io_edge::OpenGate;
 use plain_list::{Change, Op};
 use sessions::{CallFault, SharedBook, Start, Store};
 use std::alloc::Global;
@@ -19,7 +18,7 @@ use std::marker::{Brand, Model};
 use std::sync::Wait;
 use std::sync::ledger::{Blank, Ledger};
 use step_count::Steps;
-use store_client::{Reply, try_split};
+use store_client::{Reply, tend_and_call, try_split};
 
 /// A store of moving objects with the right to call it, to share it and to end it. It can't be dropped: end it with
 /// `close`, so don't use `?` while you own one. You may lend it freely, since nobody can take a part of it away.
@@ -148,7 +147,7 @@ impl<I: Index, D: LogDisk, O: Start> ObjectStore<I, D, O> {
         let (alloc, session, row) = (self.alloc, self.session, self.row);
         self.row = row.saturating_add(1);
         let (store, pass) = (&self.store, &mut self.pass);
-        let done = match store.call(rt, alloc, pass, session, row, op, &OpenGate, steps) {
+        let done = match tend_and_call(rt, alloc, store, pass, session, row, op, steps) {
             Ok(done) => done,
             Err(fault) => return Err(fault),
         };

@@ -15,7 +15,7 @@ use crate::file_store::Found;
 use crate::object_store::ObjectStore;
 use disk_trait::LogDisk;
 use index_layer::Index;
-use sessions::Start;
+use sessions::{Start, Turn};
 use std::alloc::Global;
 use std::sync::Wait;
 use store_file::{
@@ -24,8 +24,9 @@ use store_file::{
     rotate_above,
 };
 
-/// A store over two files. Any caller lets it continue over the other file, by `rotate_above`, while the others call. Its
-/// changes are written as those of a `FileStore`, if `O` is `OverFile`, or of a `BufferedStore`, if `O` is `AtSync`.
+/// A store over two files. When its log has more records than it may (`set_most_records`), a call lets it continue over the
+/// other file, while the others call. `rotate_above` does so at any time. Its changes are written as those of a `FileStore`,
+/// if `O` is `OverFile`, or of a `BufferedStore`, if `O` is `AtSync`.
 pub type RotatingStore<I, D, O> = ObjectStore<I, D, Rotating<O>>;
 
 /// A store that was opened over two files.
@@ -85,6 +86,18 @@ impl<I: Index, D: LogDisk> ObjectStore<I, D, Rotating<AtSync>> {
 }
 
 impl<I: Index, D: LogDisk, O: Start> ObjectStore<I, D, Rotating<O>> {
+    /// Lets the log have so many records. One of 256 calls of each client, its first one among them, looks at the log. If it
+    /// has more records, that call lets the store continue over the other file before it is answered. Until you set another
+    /// number, it is 4,194,304: four for each of the most objects that a store may have. If twice the records of a fresh log
+    /// are more than this number, they count in its place. If a call can't let the store continue and the store goes on over
+    /// its own file, no call tries again until the log has grown by an eighth of the number.
+    pub fn set_most_records<R: Wait>(&mut self, rt: &R, most: u64)
+        ensures { self.new ≡ self.old }
+    {
+        let turn = Turn { most, due: most };
+        self.store.set_turn(rt, &mut self.pass, turn);
+    }
+
     /// Writes the records that wait, if any do, and ends the store. Both drives come back. They still lock their files: drop
     /// both before you open the files again.
     pub fn close(self) -> ClosedPair<D>
