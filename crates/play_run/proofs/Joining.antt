@@ -131,21 +131,29 @@ pub run-idle : {I D O P : Type 0} (w : ℕ) (lock : TableId) (rows : List InRow)
     → ((i : ℕ) (d : Lane I D O P) → i < length before → PlaysLane w (slice_index_or before i d) (slice_index_or after i d)) → AreIdle lock after
 run-idle w lock rows dealt before after has same plays = (all-played lock dealt.origin rows w (sessions_to 16 rows) before after has.dealt same plays).1
 
-module _ {I D O P : Type 0} (w : ℕ) (lock : TableId) (rows : List InRow) (old dealt pass : Known) (before after : List (Lane I D O P)) (ends : List LaneEnd) (has : HasDealt lock rows 16 before dealt) (lock_is : old.lock ≡ lock)
-    (origin : dealt.origin ≡ old.origin) (same : length after ≡ length before) (plays : (i : ℕ) (d : Lane I D O P) → i < length before → PlaysLane w (slice_index_or before i d) (slice_index_or after i d)) (takes : Takes dealt pass after)
-    (ends_are : ends ≡ ends_of after) where
+-- lanes that were dealt have run, and were gathered
+pub record AreGathered {I D O P : Type 0} (w : ℕ) (lock : TableId) (rows : List InRow) (old dealt pass : Known) (before after : List (Lane I D O P)) (ends : List LaneEnd) : Type 0 where
+  pub has : HasDealt lock rows 16 before dealt
+  pub lock_is : old.lock ≡ lock
+  pub origin : dealt.origin ≡ old.origin
+  pub same : length after ≡ length before
+  pub plays : (i : ℕ) (d : Lane I D O P) → i < length before → PlaysLane w (slice_index_or before i d) (slice_index_or after i d)
+  pub takes : Takes dealt pass after
+  pub ends_are : ends ≡ ends_of after
+
+module _ {I D O P : Type 0} {w : ℕ} {lock : TableId} {rows : List InRow} {old dealt pass : Known} {before after : List (Lane I D O P)} {ends : List LaneEnd} (all : AreGathered w lock rows old dealt pass before after ends) where
   runs : HaveAllPlayed w old.origin rows (sessions_to 16 rows) after
-  runs = subst (λ (o : Origin). HaveAllPlayed w o rows (sessions_to 16 rows) after) origin (all-played lock dealt.origin rows w (sessions_to 16 rows) before after has.dealt same plays).0
+  runs = subst (λ (o : Origin). HaveAllPlayed w o rows (sessions_to 16 rows) after) all.origin (all-played lock dealt.origin rows w (sessions_to 16 rows) before after all.has.dealt all.same all.plays).0
 
   taken : TakesIn old.origin after pass
-  taken = subst (λ (o : Origin). TakesIn o after pass) origin takes.taken
+  taken = subst (λ (o : Origin). TakesIn o after pass) all.origin all.takes.taken
 
   -- a lane met a fault
   pub run-not : HasRun I D O P w old.origin rows ends pass false
-  run-not = record { lanes = after; played = runs; pass = pass; joined = taken; goes_on = inl refl; ends_are = ends_are; is_done = tt }
+  run-not = record { lanes = after; played = runs; pass = pass; joined = taken; goes_on = inl refl; ends_are = all.ends_are; is_done = tt }
 
   pub parts-not : HasAllParts old pass
-  parts-not = joined-parts lock rows 16 old dealt pass before after has lock_is origin same takes
+  parts-not = joined-parts lock rows 16 old dealt pass before after all.has all.lock_is all.origin all.same all.takes
 
   -- none did, and the splits at the end were settled, or not
   pub run-settled : (last : Known) (result : Result Settled BookFault) → AreCalmLanes after → Settles w pass last result → HasRun I D O P w old.origin rows ends last (is_ok result)
@@ -155,7 +163,7 @@ module _ {I D O P : Type 0} (w : ℕ) (lock : TableId) (rows : List InRow) (old 
     pass = pass;
     joined = taken;
     goes_on = inr (record { calm = calm; all = parts-not.parts; result = result; settles = settles });
-    ends_are = ends_are;
+    ends_are = all.ends_are;
     is_done = settled-done w after pass last result calm parts-not.parts settles;
   }
 

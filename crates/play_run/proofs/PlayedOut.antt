@@ -1,10 +1,12 @@
 -- Rows that lanes played, over a store that was closed.
 use Rattle.std.proofs.lemmas.Bool.Decides.{nat_tests}
 use Rattle.std.proofs.Common.{◌≡◌, ◌⊎◌, inl, inr, ℕ, ◌<◌, ◌≤◌, Bool, true, false, cond, List, [], ◌∷◌, length, Option, Some, None, refl, sym, ap, subst, ◌∙◌, arith}
-use Rattle.std.specs.Prelude.{IfSome, nat_lt}
+use Rattle.std.specs.Prelude.{nat_lt}
 use Rattle.std.specs.Option.{option_map, option_map_or}
 use Rattle.plain_list.specs.declared.entries.Entry.{Entry}
 use Rattle.plain_list.specs.State.{State, IsLegal}
+use Rattle.plain_list.specs.History.{failed_cell}
+use Rattle.plain_list.specs.Played.{IsPlayed, IsPlayedWhole}
 use Rattle.csv_rows.specs.declared.rows.InRow.{InRow}
 use Rattle.csv_rows.specs.InRows.{AreInRows}
 use Rattle.disk_trait.specs.Drive.{Drive}
@@ -29,7 +31,7 @@ use Rattle.play_run.specs.declared.lanes.LaneEnd.{LaneEnd}
 use Rattle.play_run.specs.inside.Dealt.{sessions_to}
 use Rattle.play_run.specs.inside.Joined.{HasRun, HasNotRun, HasAllParts}
 use Rattle.play_run.specs.inside.Books.{IsNewBook}
-use Rattle.play_run.specs.inside.Answered.{HasAnswers, ArePlayed, AreAnswered, IsPlayedBook, IsAnsweredBook}
+use Rattle.play_run.specs.inside.Answered.{HasAnswers, IsPlayedBook, IsAnsweredBook}
 use Rattle.play_run.proofs.Dealing.{sessions-are}
 use Rattle.play_run.proofs.Answering.{has-answers}
 use Rattle.lane_history.proofs.PlayedOut.{played, whole, kept_right, loses}
@@ -46,6 +48,18 @@ unseen (e ∷ h) own all none =
     let one : once_below 0 (length (e ∷ h)) ≡ 1 = ap {B = ℕ} (λ (b : Bool). cond {A = ℕ} b 1 0) (positive (length (e ∷ h)) (omega arith)) in
     absurd (omega (arith, all 0, none 0, one))
 
+-- rows were played on a store of this origin
+record ArePlayed (w : ℕ) (origin : Origin) (rows : List InRow) (h : List Entry) : Type 0 where
+  pub played : IsPlayed (session_rows rows) h
+  pub loses : (cell : ℕ) → failed_cell h ≡ Some cell → LosesStep (IsNextStep w (start_of origin) rows) h cell
+  pub limits : IsWithinLimits w origin.bucket (start_of origin) (first_cells origin) rows h
+
+-- each row was answered, and the splits at the end were settled
+record AreAnswered (w : ℕ) (origin : Origin) (rows : List InRow) (h : List Entry) (ends : List LaneEnd) : Type 0 where
+  pub whole : IsPlayedWhole (session_rows rows) h
+  pub answers : HasAnswers origin.world h rows ends
+  pub settled : failed_cell h ≡ None → SplitsAreDone w origin.bucket (start_of origin) (first_cells origin) h
+
 played-none : (w : ℕ) (origin : Origin) (rows : List InRow) (h : List Entry) → IsPlayStart origin → h ≡ [] → ArePlayed w origin rows h
 played-none w origin rows [] start none = record {
   played = λ s. (session_rows rows s, refl);
@@ -58,7 +72,7 @@ module _ {I D O P : Type 0} (w : ℕ) (origin : Origin) (rows : List InRow) (end
   abbrev out : (done : Bool) (ran : HasRun I D O P w origin rows ends last done) → IsPlayedOut w origin rows (sessions_to 16 rows) ran.lanes last
   out done ran = record { sessions_are = sessions-are rows are; played = ran.played; pass = ran.pass; joined = ran.joined; goes_on = ran.goes_on; whole = own }
 
-  pub are-played : (done : Bool) → HasRun I D O P w origin rows ends last done ⊎ HasNotRun last done → IsLegal w (start_of origin) last.seen → IsPlayStart origin → ArePlayed w origin rows last.seen
+  are-played : (done : Bool) → HasRun I D O P w origin rows ends last done ⊎ HasNotRun last done → IsLegal w (start_of origin) last.seen → IsPlayStart origin → ArePlayed w origin rows last.seen
   are-played done (inl ran) legal start = record {
     played = played w origin rows (sessions_to 16 rows) ran.lanes last (out done ran);
     loses = λ cell failed. loses w origin rows (sessions_to 16 rows) ran.lanes last (out done ran) cell legal failed;
@@ -66,7 +80,7 @@ module _ {I D O P : Type 0} (w : ℕ) (origin : Origin) (rows : List InRow) (end
   }
   are-played done (inr none) legal start = played-none w origin rows last.seen start (unseen last.seen last.own own none.own)
 
-  pub are-answered : HasRun I D O P w origin rows ends last true ⊎ HasNotRun last true → IsLegal w (start_of origin) last.seen → IsPlayStart origin → AreAnswered w origin rows last.seen ends
+  are-answered : HasRun I D O P w origin rows ends last true ⊎ HasNotRun last true → IsLegal w (start_of origin) last.seen → IsPlayStart origin → AreAnswered w origin rows last.seen ends
   are-answered (inr none) legal start = absurd (cc none.not_done)
   are-answered (inl ran) legal start =
       let all = out true ran in
@@ -103,7 +117,7 @@ module _ {D : Type 0} (drive : D → Drive) (w : ℕ) (rows : List InRow) (old n
   play-first : IsPlayStart (origin_of drive old)
   play-first = record { kept = begins.kept; few = few-first; still = still-first }
 
-  pub played-book : origin_of drive new ≡ origin_of drive old → ArePlayed w (origin_of drive old) rows new.entries → IsPlayedBook w rows old new
+  played-book : origin_of drive new ≡ origin_of drive old → ArePlayed w (origin_of drive old) rows new.entries → IsPlayedBook w rows old new
   played-book same are = record {
     opening = sym (opening-is drive w new after) ∙ ap start_of same ∙ opening-is drive w old before;
     first = sym (first-in drive w new after (ap moves_of same ∙ still-first)) ∙ ap first_cells same ∙ first-in drive w old before still-first;
@@ -115,7 +129,7 @@ module _ {D : Type 0} (drive : D → Drive) (w : ℕ) (rows : List InRow) (old n
     kept = ap (λ (o : Origin). o.kept) same ∙ begins.kept;
   }
 
-  pub answered-book : (ends : List LaneEnd) → AreAnswered w (origin_of drive old) rows new.entries ends → IsAnsweredBook w rows old new ends
+  answered-book : (ends : List LaneEnd) → AreAnswered w (origin_of drive old) rows new.entries ends → IsAnsweredBook w rows old new ends
   answered-book ends are = record {
     whole = are.whole;
     answers = are.answers;
@@ -130,33 +144,31 @@ module _ {D : Type 0} (drive : D → Drive) (w : ℕ) (rows : List InRow) (old n
       let none : new.entries ≡ [] = ap (λ (b : BookView D). b.entries) same ∙ begins.entries in
       played-book (ap (origin_of drive) same) (played-none w (origin_of drive old) rows new.entries play-first none)
 
-  -- the same of the pass of a store of the book
-  pub play-pass : (origin : Origin) → origin ≡ origin_of drive old → IsPlayStart origin
-  play-pass origin is = subst IsPlayStart (sym is) play-first
+-- a book that a store gave back, on which rows were played
+module _ {I D O P : Type 0} (drive : D → Drive) (w : ℕ) (rows : List InRow) (old new : BookView D) (made last : Known) (ends : List LaneEnd) (done : Bool) (are : AreInRows rows) (before : IsBook drive w old) (after : IsBook drive w new)
+    (begins : IsNewBook old) (from : made.origin ≡ origin_of drive old) (value : (new.entries ≡ last.seen) × (origin_of drive new ≡ last.origin)) (own : OwnsAll last) (parts : HasAllParts made last)
+    (ran : HasRun I D O P w made.origin rows ends last done ⊎ HasNotRun last done) where
+  same-origin : origin_of drive new ≡ origin_of drive old
+  same-origin = value.1 ∙ parts.origin ∙ from
 
-  pub played-from : (origin : Origin) → origin ≡ origin_of drive old → origin_of drive new ≡ origin → ArePlayed w origin rows new.entries → IsPlayedBook w rows old new
-  played-from origin is same are = played-book (same ∙ is) (subst (λ (o : Origin). ArePlayed w o rows new.entries) is are)
-
-  pub answered-from : {A : Type 0} (f : A → List LaneEnd) (ends : Option A) (origin : Origin) → origin ≡ origin_of drive old → IfSome ends (λ e. AreAnswered w origin rows new.entries (f e))
-      → IfSome ends (λ e. IsAnsweredBook w rows old new (f e))
-  answered-from f None origin is are = are
-  answered-from f (Some e) origin is are = answered-book (f e) (subst (λ (o : Origin). AreAnswered w o rows new.entries (f e)) is are)
-
--- a book that a store of this origin gave back
-module _ {D : Type 0} (I O P : Type 0) (drive : D → Drive) (w : ℕ) (rows : List InRow) (b : BookView D) (old last : Known) (ends : List LaneEnd) (are : AreInRows rows) (book : IsBook drive w b)
-    (value : (b.entries ≡ last.seen) × (origin_of drive b ≡ last.origin)) (own : OwnsAll last) (parts : HasAllParts old last) where
-  pub origin-same : origin_of drive b ≡ old.origin
-  origin-same = value.1 ∙ parts.origin
-
-  legal-seen : IsLegal w (start_of old.origin) last.seen
+  legal-seen : IsLegal w (start_of (origin_of drive old)) last.seen
   legal-seen =
-      subst (λ (h : List Entry). IsLegal w (start_of old.origin) h) value.0
-      (subst (λ (s : State). IsLegal w s b.entries) (sym (opening-is drive w b book) ∙ ap start_of origin-same) book.legal)
+      subst (λ (h : List Entry). IsLegal w (start_of (origin_of drive old)) h) value.0
+      (subst (λ (s : State). IsLegal w s new.entries) (sym (opening-is drive w new after) ∙ ap start_of same-origin) after.legal)
 
-  pub store-played : (done : Bool) → IsPlayStart old.origin → HasRun I D O P w old.origin rows ends last done ⊎ HasNotRun last done → ArePlayed w old.origin rows b.entries
-  store-played done start ran = subst (λ (h : List Entry). ArePlayed w old.origin rows h) (sym value.0) (are-played w old.origin rows ends last are own done ran legal-seen start)
+  from-old : HasRun I D O P w (origin_of drive old) rows ends last done ⊎ HasNotRun last done
+  from-old = subst (λ (o : Origin). HasRun I D O P w o rows ends last done ⊎ HasNotRun last done) from ran
 
-  pub store-answered : (done : Bool) → done ≡ true → IsPlayStart old.origin → HasRun I D O P w old.origin rows ends last done ⊎ HasNotRun last done → AreAnswered w old.origin rows b.entries ends
-  store-answered done sure start ran =
-      subst (λ (h : List Entry). AreAnswered w old.origin rows h ends) (sym value.0)
-      (are-answered w old.origin rows ends last are own (subst (λ (d : Bool). HasRun I D O P w old.origin rows ends last d ⊎ HasNotRun last d) sure ran) legal-seen start)
+  start : IsPlayStart (origin_of drive old)
+  start = play-first drive w rows old new before after begins
+
+  pub store-played : IsPlayedBook w rows old new
+  store-played =
+      played-book drive w rows old new before after begins same-origin
+      (subst (λ (h : List Entry). ArePlayed w (origin_of drive old) rows h) (sym value.0) (are-played w (origin_of drive old) rows ends last are own done from-old legal-seen start))
+
+  pub store-answered : done ≡ true → IsAnsweredBook w rows old new ends
+  store-answered sure =
+      answered-book drive w rows old new before after begins ends
+      (subst (λ (h : List Entry). AreAnswered w (origin_of drive old) rows h ends) (sym value.0)
+      (are-answered w (origin_of drive old) rows ends last are own (subst (λ (d : Bool). HasRun I D O P w (origin_of drive old) rows ends last d ⊎ HasNotRun last d) sure from-old) legal-seen start))

@@ -15,6 +15,7 @@
 //! (`recovery`).
 #![tactic(auto)]
 
+mod jobs;
 mod lanes;
 mod log_book;
 mod output;

@@ -7,18 +7,16 @@ ghost use Rattle.play_run.specs.inside.Books.{IsNewBook};
 ghost use Rattle.play_run.specs.inside.Answered.{HasNumbers, EndsPlay};
 ghost use Rattle.play_run.specs.inside.Ended.{EndsBook};
 
+use crate::jobs::{Host, Job};
 use crate::lanes::LaneEnd;
 use crate::output::tell_report;
-use crate::reports::Report;
 use crate::sessions_play::{Played, play_sessions};
 use commit_book::{Book, BookParts};
-use csv_rows::InRow;
 use disk_trait::LogDisk;
 use index_layer::Index;
 use io_edge::{Gate, Sink};
 use plain_list::Entries;
 use run_ends::{Refusal, put_refusal, written};
-use std::alloc::Global;
 use std::marker::Brand;
 use std::sync::Wait;
 use std::thread::Threads;
@@ -34,44 +32,35 @@ pub(crate) struct Told<D: LogDisk> {
     pub(crate) disk: Option<D>,
 }
 
-/// Plays rows on a book without entries, and writes their report.
+/// Plays the rows of a job on a book without entries, and writes their report.
 pub(crate) fn play_and_tell<
     R: Threads + Wait + Sync,
     I: Index + Send,
     K: Sink,
     D: LogDisk + Send,
     G: Gate + Sync,
->(
-    rt: &R,
-    alloc: Global,
-    rows: &[InRow],
-    report: Report,
-    book: Book<I, D>,
-    sink: &mut K,
-    gate: &G,
-) -> Told<D>
-    requires rows { AreInRows rows.now }
+>(host: &Host<'_, R, G>, job: &Job<'_>, book: Book<I, D>, sink: &mut K) -> Told<D>
+    requires rows { AreInRows job.now.rows.now }
     requires new { IsNewBook book }
-    ensures { EndsBook D.drive I.WIDTH report rows.now book result.history result.status result.disk (K.output sink.old)
+    ensures { EndsBook D.drive I.WIDTH job.now.report job.now.rows.now book result.history result.status result.disk (K.output sink.old)
         (K.output sink.new) }
 {
     let mut book = book;
-    book.make_room(rows.len() + rows.len() / ROWS_A_STEP);
-    let played = play_sessions::<R, I, D, Brand, G>(rt, alloc, rows, book, gate);
-    tell_book(report, rows, played, sink)
+    book.make_room(job.rows.len() + job.rows.len() / ROWS_A_STEP);
+    let played = play_sessions::<R, I, D, Brand, G>(host, job.rows, book);
+    tell_book(job, played, sink)
 }
 
 // Writes the report of rows that were played on a book, and takes the book apart.
 fn tell_book<I: Index, K: Sink, D: LogDisk>(
-    report: Report,
-    rows: &[InRow],
+    job: &Job<'_>,
     played: Played<I, D>,
     sink: &mut K,
 ) -> Told<D>
-    requires rows { AreInRows rows.now }
-    requires numbers { IfSome played.ends (λ ends. HasNumbers rows.now ends.items) }
+    requires rows { AreInRows job.now.rows.now }
+    requires numbers { IfSome played.ends (λ ends. HasNumbers job.now.rows.now ends.items) }
     requires kept { played.book.kept ≡ true }
-    ensures ends { EndsPlay report rows.now (failed_cell played.book.entries) played.book.leaves
+    ensures ends { EndsPlay job.now.report job.now.rows.now (failed_cell played.book.entries) played.book.leaves
         (option_map (λ ends. ends.items) played.ends) result.status (K.output sink.old) (K.output sink.new) }
     ensures history { result.history ≡ played.book.entries }
     ensures disk { result.disk ≡ disk_in played.book.log }
@@ -83,7 +72,7 @@ fn tell_book<I: Index, K: Sink, D: LogDisk>(
         disk,
         entries,
     } = book.into_parts();
-    let status = tell_end(report, rows, failed, &ends, &index, sink);
+    let status = tell_end(job, failed, &ends, &index, sink);
     Told {
         status,
         history: entries,
@@ -93,16 +82,15 @@ fn tell_book<I: Index, K: Sink, D: LogDisk>(
 
 // Writes the report of rows that were all answered, or the line of a refusal.
 fn tell_end<I: Index, K: Sink>(
-    report: Report,
-    rows: &[InRow],
+    job: &Job<'_>,
     failed: Option<u64>,
     ends: &Option<Vec<LaneEnd>>,
     index: &I,
     sink: &mut K,
 ) -> u8
-    requires rows { AreInRows rows.now }
-    requires numbers { IfSome ends.now (λ ends. HasNumbers rows.now ends.items) }
-    ensures { EndsPlay report rows.now failed (I.leaves index.now) (option_map (λ ends. ends.items) ends.now)
+    requires rows { AreInRows job.now.rows.now }
+    requires numbers { IfSome ends.now (λ ends. HasNumbers job.now.rows.now ends.items) }
+    ensures { EndsPlay job.now.report job.now.rows.now failed (I.leaves index.now) (option_map (λ ends. ends.items) ends.now)
         result (K.output sink.old) (K.output sink.new) }
 {
     if let Some(cell) = failed {
@@ -111,7 +99,7 @@ fn tell_end<I: Index, K: Sink>(
     match ends {
         Some(ends) => {
             let ends = ends.as_slice();
-            written(tell_report(sink, report, rows, ends, index))
+            written(tell_report(sink, job.report, job.rows, ends, index))
         }
         None => put_refusal(&Refusal::Memory, sink),
     }

@@ -4,6 +4,7 @@ ghost use Rattle.run_ends.specs.Ends.{written_by};
 ghost use Rattle.command_words.specs.Asked.{file_of};
 ghost use Rattle.play_run.specs.Trying.{TriesRows};
 
+use crate::jobs::{Host, Job};
 use crate::playing::play_rows;
 use crate::reports::Report;
 use command_words::{Command, Made};
@@ -30,18 +31,14 @@ pub fn trial<R: Threads + Wait + Sync, K: Sink, D: LogDisk + Send, G: Gate + Syn
 {
     match make(alloc, made.rows, made.seed) {
         Ok(rows) => {
+            let host = Host { rt, alloc, gate };
             let rows = rows.as_slice();
-            play_rows(
-                rt,
-                alloc,
+            let job = Job {
                 rows,
-                Report::Summary,
-                log,
-                TRIAL_BUCKET,
-                sink,
-                drives,
-                gate,
-            )
+                report: Report::Summary,
+                size: TRIAL_BUCKET,
+            };
+            play_rows(&host, &job, log, sink, drives)
         }
         Err(_) => refuse_on(alloc, &Refusal::Memory, sink, drives),
     }

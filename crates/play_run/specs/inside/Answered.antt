@@ -9,9 +9,7 @@ use Rattle.index_layer.specs.Leaves.{Leaf}
 use Rattle.index_layer.specs.Stands.{Stands}
 use Rattle.csv_rows.specs.declared.rows.InRow.{InRow}
 use Rattle.commit_book.specs.BookView.{BookView}
-use Rattle.book_lock.specs.declared.origin.Origin.{Origin}
 use Rattle.kept_log.specs.Counts.{first_in}
-use Rattle.sessions.specs.Shared.{first_cells, start_of}
 use Rattle.sessions.specs.declared.store.lanes.KeptRow.{KeptRow}
 use Rattle.lane_history.specs.SessionRows.{session_rows}
 use Rattle.lane_history.specs.Kept.{AreRight}
@@ -47,18 +45,6 @@ HasNumbers rows ends = (s : ℕ) → map (λ (k : KeptRow). k.row) (kept_of s en
 -- the kept rows of each session are the answers to its rows
 abbrev pub HasAnswers : World → List Entry → List InRow → List LaneEnd → Type 0
 HasAnswers world h rows ends = (s : ℕ) → AreAnswers world h (session_rows rows s) (kept_of s ends)
-
--- rows were played on a store of this origin
-pub record ArePlayed (w : ℕ) (origin : Origin) (rows : List InRow) (h : List Entry) : Type 0 where
-  pub played : IsPlayed (session_rows rows) h
-  pub loses : (cell : ℕ) → failed_cell h ≡ Some cell → LosesStep (IsNextStep w (start_of origin) rows) h cell
-  pub limits : IsWithinLimits w origin.bucket (start_of origin) (first_cells origin) rows h
-
--- each row was answered, and the splits at the end were settled
-pub record AreAnswered (w : ℕ) (origin : Origin) (rows : List InRow) (h : List Entry) (ends : List LaneEnd) : Type 0 where
-  pub whole : IsPlayedWhole (session_rows rows) h
-  pub answers : HasAnswers origin.world h rows ends
-  pub settled : failed_cell h ≡ None → SplitsAreDone w origin.bucket (start_of origin) (first_cells origin) h
 
 -- rows were played on a book, which has the list of its entries
 pub record IsPlayedBook {D : Type 0} (w : ℕ) (rows : List InRow) (old new : BookView D) : Type 0 where

@@ -11,7 +11,7 @@ use Rattle.play_run.proofs.play_book.play_and_tell.Goals as goal
 pub tell_book-requires-clause-numbers : goal.tell_book-requires-clause-numbers
 tell_book-requires-clause-numbers g c =
     let played = c.play_sessions-played in
-    answered-numbers (λ e. e.items) g.I.Index.WIDTH c.args.rows.now c.make_room.new.self played.result.book played.result.ends played.ensures.answered
+    answered-numbers (λ e. e.items) g.I.Index.WIDTH c.args.job.now.rows.now c.make_room.new.self played.result.book played.result.ends played.ensures.answered
 
 pub returns : goal.returns
 returns g c =
@@ -19,8 +19,8 @@ returns g c =
     let moved = c.make_room.ensures in
     let old = c.make_room.new.self in
     let new = c.play_sessions-played.result.book in
-    let rows = c.args.rows.now in
-    let report = c.args.report in
+    let rows = c.args.job.now.rows.now in
+    let report = c.args.job.now.report in
     let by = c.play_sessions-played.ensures in
     let end = c.tell_book.result in
     let told = c.tell_book.ensures in

@@ -7,8 +7,8 @@ use Rattle.play_run.proofs.play_book.tell_book.Goals as goal
 pub returns-clause-ends : goal.returns-clause-ends
 returns-clause-ends g c =
     let book = c.args.played.book in
-    let rows = c.args.rows.now in
-    let report = c.args.report in
+    let rows = c.args.job.now.rows.now in
+    let report = c.args.job.now.report in
     let ends = option_map (λ e. e.items) c.args.played.ends in
     let status = c.tell_end-status.result in
     let before = g.K.Sink.output c.args.sink.now in

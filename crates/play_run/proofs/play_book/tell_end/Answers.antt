@@ -8,8 +8,8 @@ use Rattle.play_run.proofs.play_book.tell_end.Goals as goal
 
 pub returns-in-Some-ends : goal.returns-in-Some-ends
 returns-in-Some-ends g c =
-    let rows = c.args.rows.now in
-    let report = c.args.report in
+    let rows = c.args.job.now.rows.now in
+    let report = c.args.job.now.report in
     let ends = c.in-Some-ends.ends in
     let before = g.K.Sink.output c.args.sink.now in
     let after = g.K.Sink.output c.tell_report.new.sink in

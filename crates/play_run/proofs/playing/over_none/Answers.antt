@@ -11,7 +11,7 @@ returns-in-Ok g c =
     let before = g.K.Sink.output c.args.sink.now in
     let after = g.K.Sink.output c.play_and_tell-told.new.sink in
     record {
-      plays = inr (answered-new g.D.LogDisk.drive c.args.report c.args.size c.args.rows.now book c.args.drives told.disk before after told.status told.history by.0 by.2 by.3 c.play_and_tell-told.ensures);
+      plays = inr (answered-new g.D.LogDisk.drive c.args.job.now.report c.args.job.now.size c.args.job.now.rows.now book c.args.drives told.disk before after told.status told.history by.0 by.2 by.3 c.play_and_tell-told.ensures);
       other = refl;
     }
 
