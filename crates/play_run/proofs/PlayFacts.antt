@@ -1,5 +1,5 @@
 -- What the ways that a play goes tell of its status.
-use Rattle.std.proofs.Common.{◌≡◌, ◌⊎◌, inl, inr, ◌∙◌, ℕ, List, Option, Some, None, Result, Ok, Err, refl, ap}
+use Rattle.std.proofs.Common.{◌≡◌, ◌⊎◌, inl, inr, ◌∙◌, ℕ, List, Option, Some, None, Result, Ok, Err, refl, sym, ap, subst, ⊎_elim}
 use Rattle.causes.specs.Causes.{Rose}
 use Rattle.disk_trait.specs.Drive.{Drive}
 use Rattle.plain_list.specs.declared.entries.Entry.{Entry}
@@ -16,7 +16,7 @@ use Rattle.run_ends.specs.Status.{status_of}
 use Rattle.run_ends.specs.Ending.{EndsRefused}
 use Rattle.run_ends.specs.LogFaults.{log_refusal}
 use Rattle.run_ends.specs.Inputs.{IsInputCause}
-use Rattle.play_run.specs.Playing.{IsGood, FollowsLog, HasNoBook, IsStop, EndsRows, PlaysRows, IsRead, Goes, Plays}
+use Rattle.play_run.specs.Playing.{IsGood, FollowsLog, HasNoBook, IsStop, EndsRows, PlaysRows, IsInputUnread, IsRead, Goes, Plays}
 
 err-same : (rows : Result (List InRow) Refusal) (a b : Refusal) → rows ≡ Err a → rows ≡ Err b → a ≡ b
 err-same rows a b first second = cc (first, second)
@@ -24,16 +24,18 @@ err-same rows a b first second = cc (first, second)
 ok-err : (rows : Result (List InRow) Refusal) (l : List InRow) (a : Refusal) → rows ≡ Ok l → rows ≡ Err a → ⊥
 ok-err rows l a first second = cc (first, second)
 
--- why no rows are read: the count rose, memory ran out, or what the bytes give
-input-status : (old new : Input) (why : Refusal) (bytes : List ℕ) → old.left ≡ Some bytes → IsInputCause old new why
-    → ((status_of why ≡ 5) × Rose old.faults new.faults) ⊎ ((status_of why ≡ 9) ⊎ (judged bytes ≡ Err why))
+-- how a play ends that read no rows: the source failed, memory ran out, or the bytes give a refusal
+abbrev EndsUnread : Input → Input → ℕ → List ℕ → Type 0
+EndsUnread old new status bytes = ((status ≡ 5) × Rose old.faults new.faults) ⊎ ((status ≡ 9) ⊎ ((why : Refusal) × (judged bytes ≡ Err why) × (status ≡ status_of why)))
+
+input-status : (old new : Input) (why : Refusal) (bytes : List ℕ) → old.left ≡ Some bytes → IsInputCause old new why → EndsUnread old new (status_of why) bytes
 input-status old new refusal.Source bytes told c = inl (refl, c)
 input-status old new refusal.Memory bytes told c = inr (inl refl)
-input-status old new refusal.Header bytes told c = inr (inr (c bytes told))
-input-status old new (refusal.Csv row) bytes told c = inr (inr (c bytes told))
-input-status old new (refusal.Field row column) bytes told c = inr (inr (c bytes told))
-input-status old new refusal.LongInput bytes told c = inr (inr (c bytes told))
-input-status old new refusal.ManyRows bytes told c = inr (inr (c bytes told))
+input-status old new refusal.Header bytes told c = inr (inr (_, c bytes told, refl))
+input-status old new (refusal.Csv row) bytes told c = inr (inr (_, c bytes told, refl))
+input-status old new (refusal.Field row column) bytes told c = inr (inr (_, c bytes told, refl))
+input-status old new refusal.LongInput bytes told c = inr (inr (_, c bytes told, refl))
+input-status old new refusal.ManyRows bytes told c = inr (inr (_, c bytes told, refl))
 input-status old new refusal.Usage bytes told c = absurd c
 input-status old new refusal.NotLog bytes told c = absurd c
 input-status old new (refusal.OldLog version w) bytes told c = absurd c
@@ -44,32 +46,30 @@ input-status old new refusal.LongEvents bytes told c = absurd c
 input-status old new (refusal.InUse len) bytes told c = absurd c
 input-status old new (refusal.Strange cell) bytes told c = absurd c
 
+unread-status : {D : Type 0} (before after : Input) (old new : Targets D) (status : ℕ) (h : List Entry) → IsInputUnread before after old new status h → (bytes : List ℕ) → before.left ≡ Some bytes → EndsUnread before after status bytes
+unread-status before after old new status h unread bytes told =
+    let (why, cause, refuses) = unread.refused in subst (λ (n : ℕ). EndsUnread before after n bytes) (sym refuses.status_is) (input-status before after why bytes told cause)
+
 plays-input : {S D : Type 0} (log : Option (List ℕ)) (size : ℕ) (old new : Ends S D) (status : ℕ) (h : List Entry) → Goes log size old.input new.input old.to new.to status h → (bytes : List ℕ) (why : Refusal) → old.input.left ≡ Some bytes → judged bytes ≡ Err why
     → (status ≡ status_of why) ⊎ ((status ≡ 5) ⊎ (status ≡ 9))
 plays-input log size old new status h (inr read) bytes why told bad = absurd (ok-err (judged bytes) read.rows why (read.read.rows_are bytes told) bad)
-plays-input log size old new status h (inl unread) bytes why told bad = by_why unread.refused
+plays-input log size old new status h (inl unread) bytes why told bad = by_end (unread-status old.input new.input old.to new.to status h unread bytes told)
   where
-    by_why : EndsRefused (IsInputCause old.input new.input) status old.to.output new.to.output → (status ≡ status_of why) ⊎ ((status ≡ 5) ⊎ (status ≡ 9))
-    by_why (r, cause, refuses) = by_status (input-status old.input new.input r bytes told cause)
-      where
-        by_status : ((status_of r ≡ 5) × Rose old.input.faults new.input.faults) ⊎ ((status_of r ≡ 9) ⊎ (judged bytes ≡ Err r)) → (status ≡ status_of why) ⊎ ((status ≡ 5) ⊎ (status ≡ 9))
-        by_status (inl (five, rose)) = inr (inl (refuses.status_is ∙ five))
-        by_status (inr (inl nine)) = inr (inr (refuses.status_is ∙ nine))
-        by_status (inr (inr gives)) = inl (refuses.status_is ∙ ap status_of (err-same (judged bytes) r why gives bad))
+    by_end : EndsUnread old.input new.input status bytes → (status ≡ status_of why) ⊎ ((status ≡ 5) ⊎ (status ≡ 9))
+    by_end (inl (five, rose)) = inr (inl five)
+    by_end (inr (inl nine)) = inr (inr nine)
+    by_end (inr (inr (r, gives, is))) = inl (is ∙ ap status_of (err-same (judged bytes) r why gives bad))
 
 -- good input and no fault of the source: rows are read, or memory ran out
 read-or-memory : {S D : Type 0} (log : Option (List ℕ)) (size : ℕ) (old new : Ends S D) (status : ℕ) (h : List Entry) → Goes log size old.input new.input old.to new.to status h → (bytes : List ℕ) (rows : List InRow) → old.input.left ≡ Some bytes → judged bytes ≡ Ok rows
     → (Rose old.input.faults new.input.faults → ⊥) → IsRead log size old.input new.input old.to new.to status h ⊎ (status ≡ 9)
 read-or-memory log size old new status h (inr read) bytes rows told good calm = inl read
-read-or-memory log size old new status h (inl unread) bytes rows told good calm = by_why unread.refused
+read-or-memory log size old new status h (inl unread) bytes rows told good calm = by_end (unread-status old.input new.input old.to new.to status h unread bytes told)
   where
-    by_why : EndsRefused (IsInputCause old.input new.input) status old.to.output new.to.output → IsRead log size old.input new.input old.to new.to status h ⊎ (status ≡ 9)
-    by_why (r, cause, refuses) = by_status (input-status old.input new.input r bytes told cause)
-      where
-        by_status : ((status_of r ≡ 5) × Rose old.input.faults new.input.faults) ⊎ ((status_of r ≡ 9) ⊎ (judged bytes ≡ Err r)) → IsRead log size old.input new.input old.to new.to status h ⊎ (status ≡ 9)
-        by_status (inl (five, rose)) = absurd (calm rose)
-        by_status (inr (inl nine)) = inr (refuses.status_is ∙ nine)
-        by_status (inr (inr gives)) = absurd (ok-err (judged bytes) rows r good gives)
+    by_end : EndsUnread old.input new.input status bytes → IsRead log size old.input new.input old.to new.to status h ⊎ (status ≡ 9)
+    by_end (inl (five, rose)) = absurd (calm rose)
+    by_end (inr (inl nine)) = inr nine
+    by_end (inr (inr (r, gives, is))) = absurd (ok-err (judged bytes) rows r good gives)
 
 -- over a log
 module _ {D : Type 0} (report : Report) (size : ℕ) (rows : List InRow) (old new : Targets D) (status : ℕ) (h : List Entry) where
@@ -98,10 +98,7 @@ module _ {D : Type 0} (report : Report) (size : ℕ) (rows : List InRow) (old ne
   stop-status log from good (refusal.Strange cell) stop = absurd stop
 
   pub rows-done : (log : Option (List ℕ)) → PlaysRows report log size rows old new status h → (Rose old.output.faults new.output.faults → ⊥) → IsGood log old.drive new.drive → (status ≡ 0) ⊎ (status ≡ 9)
-  rows-done log (inl unopened) quiet good = by_why unopened.refused
-    where
-      by_why : EndsRefused (HasNoBook log old new) status old.output new.output → (status ≡ 0) ⊎ (status ≡ 9)
-      by_why (why, none, refuses) = inr (refuses.status_is ∙ ap status_of (no-book-memory log good why none))
+  rows-done log (inl unopened) quiet good = let (why, none, refuses) = unopened.refused in inr (refuses.status_is ∙ ap status_of (no-book-memory log good why none))
   rows-done log (inr answered) quiet good = by_end answered.ends
     where
       by_end : EndsRows (IsStop log answered.from rows old.drive new.drive h) status old.output new.output → (status ≡ 0) ⊎ (status ≡ 9)
@@ -111,14 +108,9 @@ module _ {D : Type 0} (report : Report) (size : ℕ) (rows : List InRow) (old ne
 
   pub rows-log : (log : Option (List ℕ)) → PlaysRows report log size rows old new status h → FollowsLog log old.drive new.drive status
   rows-log None plays = tt
-  rows-log (Some file) (inl unopened) = by_why unopened.refused
-    where
-      by_why : EndsRefused (HasNoBook (Some file) old new) status old.output new.output → FollowsLog (Some file) old.drive new.drive status
-      by_why (why, none, refuses) bytes fault told shown at calm = named (none.exact bytes fault told shown at calm)
-        where
-          named : (why ≡ log_refusal fault) ⊎ (why ≡ refusal.Memory) → (status ≡ status_of (log_refusal fault)) ⊎ (status ≡ 9)
-          named (inl is) = inl (refuses.status_is ∙ ap status_of is)
-          named (inr memory) = inr (refuses.status_is ∙ ap status_of memory)
+  rows-log (Some file) (inl unopened) = λ bytes fault told shown at calm.
+      let (why, none, refuses) = unopened.refused in
+      ⊎_elim (λ is. inl (refuses.status_is ∙ ap status_of is)) (λ memory. inr (refuses.status_is ∙ ap status_of memory)) (none.exact bytes fault told shown at calm)
   rows-log (Some file) (inr answered) = λ bytes fault told shown at calm. absurd (answered.book bytes fault told shown at)
 
 pub nine-log : (log : Option (List ℕ)) (old new : Drive) (status : ℕ) → status ≡ 9 → FollowsLog log old new status
