@@ -1,5 +1,5 @@
 -- How rows end that were played over a book.
-use Rattle.std.proofs.Common.{◌≡◌, inl, inr, ℕ, List, take, Option, Some, None, Result, Ok, Err, refl, subst, arith}
+use Rattle.std.proofs.Common.{◌≡◌, ◌⊎◌, inl, inr, ℕ, List, take, Option, Some, None, Result, Ok, Err, refl, subst, arith}
 use Rattle.std.specs.Prelude.{IfSome}
 use Rattle.std.specs.Option.{option_map}
 use Rattle.std.specs.Io.KnownBytes.{Appends}
@@ -25,7 +25,7 @@ use Rattle.run_ends.specs.declared.refusals.Refusal.TheVariants as refusal
 use Rattle.play_run.specs.declared.reports.Report.{Report}
 use Rattle.play_run.specs.Lines.{text_of}
 use Rattle.run_ends.specs.Status.{WritesLines, written_status}
-use Rattle.run_ends.specs.Ending.{EndsWriting}
+use Rattle.run_ends.specs.Ending.{EndsRefused, EndsWriting}
 use Rattle.run_ends.specs.Taking.{Refuses}
 use Rattle.play_run.specs.Playing.{EndsRows}
 use Rattle.play_run.specs.Answers.{AnswersAsOneList}
@@ -70,15 +70,22 @@ module _ {D : Type 0} (drive : D → Drive) (w : ℕ) (report : Report) (rows : 
     stands = subst (λ (s : State). Stands new.leaves (places_of (world_after s.world h)) (state_after w new.opening h).leaves) played.opening book.stands;
   }
 
-  -- what the answers say, where the text is written
-  some-answered : (e : List LaneEnd) → ends ≡ Some e → IsAnsweredBook w rows old new e
-  some-answered e is = subst (λ (o : Option (List LaneEnd)). IfSome o (λ x. IsAnsweredBook w rows old new x)) is answered
-
   no-text : (why : Refusal) → Refuses why status before after → WritesLines status → ⊥
   no-text why refuses = no-lines why status refuses.status_is
 
-  writes : WritesText report rows new.leaves ends status before after → EndsWriting text status before after
-  writes wrote = wrote.writes old.opening.world h (some-answered wrote.some wrote.ends_are).answers objects
+  -- rows end with a refusal and its cause, or were all answered and their text was written
+  abbrev Ending : Type 0
+  Ending = EndsRefused (StopsBook (IsNextStep w old.opening rows) h) status before after ⊎ ((failed_cell h ≡ None) × ((e : List LaneEnd) × IsAnsweredBook w rows old new e) × EndsWriting text status before after)
+
+  ending : Ending
+  ending = by_end end
+    where
+      by_end : EndsPlay report rows (failed_cell h) new.leaves ends status before after → Ending
+      by_end (inl (cell, failed, refuses)) = inl (refusal.Disk (Some cell), inr (cell, refl, played.loses cell failed), refuses)
+      by_end (inr (inl (none, refuses))) = inl (refusal.Memory, inl (refl, none), refuses)
+      by_end (inr (inr (none, wrote))) =
+          let all : IsAnsweredBook w rows old new wrote.some = subst (λ (o : Option (List LaneEnd)). IfSome o (λ x. IsAnsweredBook w rows old new x)) wrote.ends_are answered in
+          inr (none, (wrote.some, all), wrote.writes old.opening.world h all.answers objects)
 
   all-lines : EndsWriting text status before after → status ≡ 0 → Appends before.taken after.taken text
   all-lines (inl (zero, all, same)) e = all
@@ -88,48 +95,24 @@ module _ {D : Type 0} (drive : D → Drive) (w : ℕ) (report : Report) (rows : 
   some-lines (inl (zero, all, same)) e = absurd (omega (arith, zero, e))
   some-lines (inr (six, rose, part)) e = part
 
-  end-answers : AnswersAsOneList report w old.opening rows h status before after
-  end-answers = by_end end
-    where
-      refused : (why : Refusal) → Refuses why status before after → AnswersAsOneList report w old.opening rows h status before after
-      refused why refuses = record {
-        legal = legal;
-        played = played.played;
-        whole = λ written. absurd (no-text why refuses written);
-        lines = λ e. absurd (no-text why refuses (inl e));
-        part = λ e. absurd (no-text why refuses (inr e));
-      }
+  end-answers : Ending → AnswersAsOneList report w old.opening rows h status before after
+  end-answers (inl (why, stops, refuses)) = record {
+    legal = legal;
+    played = played.played;
+    whole = λ written. absurd (no-text why refuses written);
+    lines = λ e. absurd (no-text why refuses (inl e));
+    part = λ e. absurd (no-text why refuses (inr e));
+  }
+  end-answers (inr (none, (e, all), wrote)) = record { legal = legal; played = played.played; whole = λ written. all.whole; lines = all-lines wrote; part = some-lines wrote }
 
-      by_end : EndsPlay report rows (failed_cell h) new.leaves ends status before after → AnswersAsOneList report w old.opening rows h status before after
-      by_end (inl (cell, failed, refuses)) = refused (refusal.Disk (Some cell)) refuses
-      by_end (inr (inl (none, refuses))) = refused refusal.Memory refuses
-      by_end (inr (inr (none, wrote))) = record {
-        legal = legal;
-        played = played.played;
-        whole = λ written. (some-answered wrote.some wrote.ends_are).whole;
-        lines = all-lines (writes wrote);
-        part = some-lines (writes wrote);
-      }
+  end-rows : Ending → EndsRows (StopsBook (IsNextStep w old.opening rows) h) status before after
+  end-rows (inl refused) = inr (inr refused)
+  end-rows (inr (none, some, inl (zero, all, same))) = inl (zero, same)
+  end-rows (inr (none, some, inr (six, rose, part))) = inr (inl (six, rose))
 
-  end-rows : EndsRows (StopsBook (IsNextStep w old.opening rows) h) status before after
-  end-rows = by_end end
-    where
-      by_writing : EndsWriting text status before after → EndsRows (StopsBook (IsNextStep w old.opening rows) h) status before after
-      by_writing (inl (zero, all, same)) = inl (zero, same)
-      by_writing (inr (six, rose, part)) = inr (inl (six, rose))
-
-      by_end : EndsPlay report rows (failed_cell h) new.leaves ends status before after → EndsRows (StopsBook (IsNextStep w old.opening rows) h) status before after
-      by_end (inl (cell, failed, refuses)) = inr (inr (refusal.Disk (Some cell), inr (cell, refl, played.loses cell failed), refuses))
-      by_end (inr (inl (none, refuses))) = inr (inr (refusal.Memory, inl (refl, none), refuses))
-      by_end (inr (inr (none, wrote))) = by_writing (writes wrote)
-
-  end-splits : WritesLines status → SplitsAreDone w old.bucket old.opening (first_in old.log) h
-  end-splits written = by_end end
-    where
-      by_end : EndsPlay report rows (failed_cell h) new.leaves ends status before after → SplitsAreDone w old.bucket old.opening (first_in old.log) h
-      by_end (inl (cell, failed, refuses)) = absurd (no-text (refusal.Disk (Some cell)) refuses written)
-      by_end (inr (inl (none, refuses))) = absurd (no-text refusal.Memory refuses written)
-      by_end (inr (inr (none, wrote))) = (some-answered wrote.some wrote.ends_are).settled none
+  end-splits : Ending → WritesLines status → SplitsAreDone w old.bucket old.opening (first_in old.log) h
+  end-splits (inl (why, stops, refuses)) written = absurd (no-text why refuses written)
+  end-splits (inr (none, (e, all), wrote)) written = all.settled none
 
   end-log : BeginsAs drive old.log new.log → LeavesLog drive w old.opening h old.log (disk_in new.log)
   end-log starts = record {
@@ -141,4 +124,4 @@ module _ {D : Type 0} (drive : D → Drive) (w : ℕ) (report : Report) (rows : 
   }
 
   pub ends-book : BeginsAs drive old.log new.log → EndsBook drive w report rows old h status (disk_in new.log) before after
-  ends-book starts = record { one_list = end-answers; ends = end-rows; splits = end-splits; limits = played.limits; log = end-log starts }
+  ends-book starts = record { one_list = end-answers ending; ends = end-rows ending; splits = end-splits ending; limits = played.limits; log = end-log starts }
