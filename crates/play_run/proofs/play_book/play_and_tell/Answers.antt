@@ -16,23 +16,12 @@ tell_book-requires-clause-numbers g c =
 pub returns : goal.returns
 returns g c =
     let drive = g.D.LogDisk.drive in
-    let moved = c.make_room.ensures in
+    let w = g.I.Index.WIDTH in
+    let job = c.args.job.now in
     let old = c.make_room.new.self in
-    let new = c.play_sessions-played.result.book in
-    let rows = c.args.job.now.rows.now in
-    let report = c.args.job.now.report in
-    let by = c.play_sessions-played.ensures in
-    let end = c.tell_book.result in
+    let played = c.play_sessions-played in
     let told = c.tell_book.ensures in
-    let before = g.K.Sink.output c.args.sink.now in
-    let after = g.K.Sink.output c.tell_book.new.sink in
-    let ends = option_map (λ e. e.items) c.play_sessions-played.result.ends in
-    let answered = if-mapped (λ e. e.items) (λ (e : List LaneEnd). IsAnsweredBook g.I.Index.WIDTH rows old new e) c.play_sessions-played.result.ends by.answered in
-    let begins = subst IsNewBook (sym moved) c.requires.new in
-    let all = ends-book drive g.I.Index.WIDTH report rows old new ends end.status before after c.requires.rows begins by.played answered by.book told.ends by.starts in
-    subst (λ b. EndsBook drive g.I.Index.WIDTH report rows b end.history end.status end.disk before after) moved
-    (subst (λ d. EndsBook drive g.I.Index.WIDTH report rows old end.history end.status d before after) (sym told.disk)
-    (subst (λ h. EndsBook drive g.I.Index.WIDTH report rows old h end.status (disk_in new.log) before after) (sym told.history) all))
-
-pub tell_book-requires-clause-kept : goal.tell_book-requires-clause-kept
-tell_book-requires-clause-kept g c = c.play_sessions-played.ensures.played.kept
+    let answered = if-mapped (λ e. e.items) (λ (e : List LaneEnd). IsAnsweredBook w job.rows.now old played.result.book e) played.result.ends played.ensures.answered in
+    rw (told.disk, told.history, sym c.make_room.ensures)
+    (ends-book drive w job.report job.rows.now old played.result.book (option_map (λ e. e.items) played.result.ends) c.tell_book.result.status (g.K.Sink.output c.args.sink.now) (g.K.Sink.output c.tell_book.new.sink) c.requires.rows
+    (subst IsNewBook (sym c.make_room.ensures) c.requires.new) played.ensures.played answered played.ensures.book told.ends played.ensures.starts)
