@@ -2,7 +2,7 @@
 use crate::drivers::{Driver, Told, count_found};
 use crate::yard::Day;
 use anyhow::{Context, Result};
-use pisrakun::{KdTrie, LogDisk, OverFile, Room, RotatingStore};
+use pisrakun::{KdTrie, LogDisk, OverFile, RotatingStore};
 use std::alloc::Global;
 use std::sync::Wait;
 use std::thread::Threads;
@@ -10,39 +10,27 @@ use std::thread::Threads;
 /// The company's store over two files, on any drive.
 pub type Vans<D> = RotatingStore<KdTrie, D, OverFile>;
 
-/// The result of a day, and how much room was left in the evening.
-#[derive(Drop)]
-pub struct DayEnd {
-    pub told: Vec<Told>,
-    pub room: Room,
-}
-
-/// A day over a store: all drivers at once, each in their own thread, and then the splits that are still due.
+/// A day over a store: all drivers at once, each in their own thread.
 pub fn play_day<D: LogDisk + Send, R: Threads + Wait + Sync>(
     rt: &R,
     alloc: Global,
     vans: &mut Vans<D>,
     day: Day,
-) -> Result<DayEnd> {
+) -> Result<Vec<Told>> {
     let mut drivers = Vec::new(alloc);
     for number in 1..5u8 {
-        let driver = Driver::new(rt, alloc, vans, number, day);
-        drivers.push(driver.context("no driver begins the day")?)?;
+        drivers.push(Driver::new(rt, alloc, vans, number, day)?)?;
     }
     let drivers = vans.work_all(rt, 1, drivers).ok().context("no memory")?;
     let mut told = Vec::new(alloc);
     for driver in drivers {
-        told.push(driver.end(alloc))?;
+        told.push(driver.end())?;
     }
-    let _ = vans.settle(rt);
-    let room = vans.room(rt);
-    Ok(DayEnd { told, room })
+    Ok(told)
 }
 
-/// The end of the days. The store goes over to the other file, and is closed. If there is too little memory for that, it
-/// is closed over its own.
-pub fn end_days<D: LogDisk, R: Wait>(rt: &R, mut vans: Vans<D>) -> Result<()> {
-    let _ = vans.rotate_above(rt, 0);
+/// Closes the store after the days.
+pub fn end_days<D: LogDisk>(vans: Vans<D>) -> Result<()> {
     match vans.close().lost {
         Some(cause) => Err(cause.into()),
         None => Ok(()),

@@ -2,15 +2,19 @@
 //! come back.
 ghost use Rattle.pisrakun.specs.Caller.{Keeps};
 
-use crate::yard::{Day, ROWS, VANS, van_of, yard};
-use anyhow::{Context, Result};
-use pisrakun::{Client, Crossing, Event, Fences, Index, LogDisk, ObjectStore, Start, Tally, Work};
+use crate::yard::{Day, ROUNDS, VANS, id_of, yard};
+use anyhow::Result;
+use pisrakun::{
+    Batch, Change, Client, Crossing, Event, Fences, Index, LogDisk, NotAdded, ObjectStore, Start,
+    Tally, Work,
+};
 use std::alloc::Global;
 use std::sync::Wait;
 
 /// A driver, and the fence of their yard. Only their own vans cross it.
 #[derive(Drop)]
 pub struct Driver {
+    alloc: Global,
     number: u8,
     day: Day,
     yard: Tally,
@@ -42,19 +46,54 @@ impl Driver {
         day: Day,
     ) -> Result<Driver> {
         let fences = Fences::of(alloc, &[yard(number)])?;
-        let world = store.world(rt).ok().context("no memory")?;
-        let yard = Tally::over(alloc, &fences, &world).ok();
+        let world = store.world(rt)?;
         Ok(Driver {
+            alloc,
             number,
             day,
-            yard: yard.context("no memory")?,
+            yard: Tally::over(alloc, &fences, &world)?,
             good: 0,
         })
     }
 
+    // The reports of a round, one for each van.
+    fn reports(&self, round: u32) -> Result<Batch, NotAdded> {
+        let mut batch = Batch::new(self.alloc);
+        for van in 0..VANS {
+            let now = self.day.place(self.number, round, van);
+            batch.report(id_of(self.number, van), now.at, now.moment)?;
+        }
+        Ok(batch)
+    }
+
+    // Takes in what the reports of a round have changed: one change for each van.
+    fn watch(&mut self, round: u32, changes: &[Change]) -> Result<()> {
+        for (van, change) in (0..VANS).zip(changes) {
+            let is_good = self.day.is_good(self.number, round, van, change);
+            self.good = self.good.saturating_add(u32::from(is_good));
+            self.yard.changed(change)?;
+        }
+        Ok(())
+    }
+
+    // Reports all vans in one step, with one append.
+    fn play_round<I: Index, D: LogDisk, O: Start, R: Wait>(
+        &mut self,
+        rt: &R,
+        client: &mut Client<'_, I, D, O>,
+        round: u32,
+    ) -> Result<()>
+        ensures client { Keeps client.old client.new }
+    {
+        let reports = self.reports(round)?;
+        let replies = client.apply(rt, &reports)?;
+        let changes = replies.changes(self.alloc, &reports)?;
+        self.watch(round, &changes)
+    }
+
     /// The result of the day.
-    pub fn end(mut self, alloc: Global) -> Told {
-        let events = self.yard.take_events(alloc);
+    pub fn end(mut self) -> Told {
+        let events = self.yard.take_events(self.alloc);
         Told {
             good: self.good,
             came: count(events.as_slice(), Crossing::Enter),
@@ -64,27 +103,13 @@ impl Driver {
     }
 }
 
-// How many records a log may have. If it has more, a driver lets the store go over to the other file.
-const MOST_RECORDS: u64 = 1 << 20;
-
 impl<R: Wait> Work<R> for Driver {
-    // Reports until a call is refused, or until the tally of the yard fails. Looks after the log in each round.
+    // Plays the rounds until one fails.
     fn work<I: Index, D: LogDisk, O: Start>(&mut self, rt: &R, client: &mut Client<'_, I, D, O>)
         ensures client { Keeps client.old client.new }
     {
-        for row in 0..ROWS {
-            let (van, now) = (van_of(self.number, row), self.day.place(self.number, row));
-            let Ok(told) = client.report(rt, van, now.at, now.moment) else {
-                return;
-            };
-            if row % VANS == 0 {
-                let _ = client.rotate_above(rt, MOST_RECORDS);
-            }
-            let is_good = self.day.is_good(self.number, row, told);
-            self.good = self.good.saturating_add(u32::from(is_good));
-            if let Some(change) = client.last_change()
-                && self.yard.changed(&change).is_err()
-            {
+        for round in 0..ROUNDS {
+            if self.play_round(rt, client, round).is_err() {
                 return;
             }
         }
@@ -99,9 +124,9 @@ pub fn count_found<I: Index, D: LogDisk, O: Start, R: Wait>(
     day: Day,
 ) -> u32 {
     let mut found: u32 = 0;
-    for row in ROWS - VANS..ROWS {
-        let told = store.find(rt, van_of(driver, row));
-        let is_there = told == Ok(Some(day.place(driver, row)));
+    for van in 0..VANS {
+        let told = store.find(rt, id_of(driver, van));
+        let is_there = told == Ok(Some(day.place(driver, ROUNDS - 1, van)));
         found = found.saturating_add(u32::from(is_there));
     }
     found

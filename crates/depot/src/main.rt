@@ -1,13 +1,14 @@
-//! A delivery company over the store and a log. For two days four drivers report where their vans are. Each driver has
-//! a thread of their own, and watches which vans leave the yard and come back. The reports are kept in a log in one of
-//! two files, `depot.log` and `depot.next.log`. A run creates the files if they aren't there. Otherwise it continues
-//! with what it finds, where the last run left the vans. If the log has more than a million records, a driver lets the
-//! store go over to the other file, while the others report. After the days it goes over once more: that file has one
-//! record for each van, and none for its earlier positions. Then both files are opened again, and each van is looked up.
+//! A delivery company over the store and a log. For three days four drivers report where their vans are. Each driver
+//! has a thread of their own, reports all vans of a round in one batch, and watches which vans leave the yard and come
+//! back. The reports are kept in a log in one of two files, `depot.log` and `depot.next.log`. A run creates the files
+//! if they aren't there. Otherwise it continues with what it finds, where the last run left the vans.
 //!
-//! The output is the same however the threads run. The drivers report vans of their own, each in a quarter of the town
-//! of their own. A leaf is split if it has too many vans, whatever order they came in. So neither the answers nor the
-//! numbers of records depend on the order of the threads.
+//! The program says once how many records the log may have. If the log has more, a driver's call lets the store go over
+//! to the other file, while the others report. That file then has one record for each van, and two for each split of a
+//! leaf. The store does so at least once a day. After the days both files are opened again, and each van is looked up.
+//!
+//! The output is the same however the threads run, since the drivers report vans of their own. The order of the threads
+//! decides when the store goes over. So at the end the output has neither the file nor the number of records.
 #![tactic(auto)]
 
 mod day;
@@ -15,7 +16,8 @@ mod drivers;
 mod yard;
 
 use anyhow::Result;
-use day::{DayEnd, Vans, end_days, look_after, play_day};
+use day::{Vans, end_days, look_after, play_day};
+use drivers::Told;
 use pisrakun::{FileDisk, KdTrie, LogDisk, OpenedRotating, OverFile, Which};
 use std::io;
 use std::io::Print;
@@ -28,7 +30,13 @@ const FIRST: &str = "depot.log";
 const SECOND: &str = "depot.next.log";
 
 // How many vans a leaf should have.
-const BUCKET: u32 = 4;
+const BUCKET: u32 = 64;
+
+// How many records the log may have: some four for each van.
+const MOST_RECORDS: u64 = 500;
+
+// The days make 3,240 records, and leave fewer than this: what the log may have, and the rounds after the last look.
+const FEW_RECORDS: u64 = 1_000;
 
 fn file_of(which: Which) -> &'static str {
     match which {
@@ -37,10 +45,10 @@ fn file_of(which: Which) -> &'static str {
     }
 }
 
-fn tell_day(rt: &impl Print, number: usize, end: &DayEnd) -> io::Result<()> {
-    for (i, told) in end.told.iter().enumerate() {
+fn tell_day(rt: &impl Print, number: usize, told: &[Told]) -> io::Result<()> {
+    for (i, told) in told.iter().enumerate() {
         println!(rt;
-            "day {number}, driver {}: {} reports told as they should be; {} vans came into the yard, {} left it, {} are inside",
+            "day {number}, driver {}: {} reports answered as expected; {} vans came into the yard, {} left it, {} are inside",
             i + 1,
             told.good,
             told.came,
@@ -48,8 +56,7 @@ fn tell_day(rt: &impl Print, number: usize, end: &DayEnd) -> io::Result<()> {
             told.inside
         )?;
     }
-    let records = end.room.records.unwrap_or(0);
-    println!(rt; "day {number}: room for {records} more records")
+    Ok(())
 }
 
 type Opened<D> = OpenedRotating<KdTrie, D, OverFile>;
@@ -61,7 +68,7 @@ fn open_vans<D: LogDisk, R: Wait + AllocGlobal>(rt: &R, first: D, second: D) -> 
     Ok(opened.map_err(|refused| refused.cause)?)
 }
 
-// Plays two days over the log, from the latest moment in the log on. Returns the last day.
+// Plays three days over the log, from the latest moment in the log on. Returns the last day.
 fn work<R: Threads + Wait + Sync + AllocGlobal + Print, D: LogDisk + Send>(
     rt: &R,
     first: D,
@@ -73,16 +80,17 @@ fn work<R: Threads + Wait + Sync + AllocGlobal + Print, D: LogDisk + Send>(
         which,
         found,
     } = open_vans(rt, first, second)?;
-    let day = Day::behind(found.latest.unwrap_or(0));
+    vans.set_most_records(rt, MOST_RECORDS);
+    let one = Day::behind(found.latest.unwrap_or(0));
+    let (two, three) = (one.next(), one.next().next());
+    let told = [one, two, three].map(|day| play_day(rt, alloc, &mut vans, day));
+    end_days(vans)?;
     let (file, vans_found, records) = (file_of(which), found.objects, found.records);
-    let told = println!(rt; "{file}: {vans_found} vans in {records} records");
-    let one = play_day(rt, alloc, &mut vans, day);
-    let two = play_day(rt, alloc, &mut vans, day.next());
-    end_days(rt, vans)?;
-    told?;
-    tell_day(rt, 1, &one?)?;
-    tell_day(rt, 2, &two?)?;
-    Ok(day.next())
+    println!(rt; "{file}: {vans_found} vans in {records} records")?;
+    for (i, told) in told.into_iter().enumerate() {
+        tell_day(rt, i + 1, &told?)?;
+    }
+    Ok(three)
 }
 
 // Opens both files again, as the next run will, and looks up each van.
@@ -94,12 +102,19 @@ fn look_again<R: Wait + AllocGlobal + Print, D: LogDisk>(
 ) -> Result<()> {
     let OpenedRotating {
         store,
-        which,
+        which: _,
         found,
     } = open_vans(rt, first, second)?;
     let left = look_after(rt, store, day);
-    let (file, vans_found, records) = (file_of(which), found.objects, found.records);
-    println!(rt; "{file}: opened again, {vans_found} vans in {records} records")?;
+    let few = if found.records < FEW_RECORDS {
+        "fewer than"
+    } else {
+        "at least"
+    };
+    println!(rt;
+        "opened again: {} vans in {few} {FEW_RECORDS} records",
+        found.objects
+    )?;
     for (i, left) in left.iter().enumerate() {
         println!(rt; "driver {}: {left} vans where they were left", i + 1)?;
     }

@@ -1,14 +1,14 @@
-//! Where each van is and when, and the answer that its driver should get.
-use pisrakun::{Fence, Point, Region, Report, Stamped};
+//! Where each van is and when, and the change that each report should make.
+use pisrakun::{Change, Fence, Point, Region, Stamped};
 
-/// How many reports a driver makes in a day: one for each van, round by round.
-pub const ROWS: u32 = 27;
+/// How many rounds a day has. In each, a driver reports each van once.
+pub const ROUNDS: u32 = 9;
 
 /// How many vans a driver has.
-pub const VANS: u32 = 3;
+pub const VANS: u32 = 30;
 
-// The round after which each van is back where it began. It drives away until half of the rounds are over.
-const LAST: u32 = 8;
+// The last round, when each van is back where it began. A van drives away until half of the rounds are over.
+const LAST: u32 = ROUNDS - 1;
 
 // Where each driver's quarter begins.
 const LOW: u32 = 1_000_000_000;
@@ -44,13 +44,13 @@ pub fn yard(driver: u8) -> Fence {
     }
 }
 
-/// The van of a driver's row.
-pub fn van_of(driver: u8, row: u32) -> u64 {
-    u64::from(driver) * 10 + u64::from(row % VANS)
+/// The id of a driver's van.
+pub fn id_of(driver: u8, van: u32) -> u64 {
+    u64::from(driver) * 100 + u64::from(van)
 }
 
 impl Day {
-    /// The day after this moment.
+    /// The day that begins after this moment.
     pub fn behind(latest: u64) -> Day {
         Day {
             morning: latest.saturating_add(1),
@@ -62,9 +62,8 @@ impl Day {
         Day::behind(self.morning.saturating_add(u64::from(LAST)))
     }
 
-    /// Where a row's van is, and when.
-    pub fn place(&self, driver: u8, row: u32) -> Stamped {
-        let (van, round) = (row % VANS, row / VANS);
+    /// Where a van is in a round, and when.
+    pub fn place(&self, driver: u8, round: u32, van: u32) -> Stamped {
         let corner = corner(driver);
         let away = round.min(LAST.saturating_sub(round));
         let at = Point {
@@ -77,16 +76,14 @@ impl Day {
         }
     }
 
-    /// Whether a row had the expected answer, whatever the other drivers do. A van is new, or an earlier day has left
-    /// it where this day begins.
-    pub fn is_good(&self, driver: u8, row: u32, told: Report) -> bool {
-        match told {
-            Report::New => row < VANS,
-            Report::From(from) if row < VANS => {
-                from.at == self.place(driver, row).at && from.moment < self.morning
-            }
-            Report::From(from) => from == self.place(driver, row - VANS),
-            Report::Stale(_) | Report::Full => false,
-        }
+    /// Whether a change of a round is what a driver's report makes, whatever the other drivers do. In the first round a
+    /// van may be new.
+    pub fn is_good(&self, driver: u8, round: u32, van: u32, change: &Change) -> bool {
+        let now = self.place(driver, round, van).at;
+        let before = self.place(driver, round.saturating_sub(1), van).at;
+        let is_new = round == 0 && change.before.is_none();
+        change.id == id_of(driver, van)
+            && change.after == Some(now)
+            && (is_new || change.before == Some(before))
     }
 }
