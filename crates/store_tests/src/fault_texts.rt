@@ -190,6 +190,10 @@ const STOPPED: &[(NotRotatedOver, &str)] = &[
         },
         "split 3 is open",
     ),
+    (
+        NotRotatedOver::Unsynced,
+        "the drive failed while the records that waited were written",
+    ),
     (NotRotatedOver::SpareFailed, "the second drive failed"),
     (
         NotRotatedOver::FirstFailed,

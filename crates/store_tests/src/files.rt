@@ -55,7 +55,7 @@ pub(crate) const FIRST_TWO_AND_FOURTH: Places = [
 // How many objects there are, their latest moment, how many records the log has, and where the objects are.
 pub(crate) type Found = (u64, Option<u64>, u64, Places);
 
-const NOTHING: Found = (0, None, 0, [NOWHERE, NOWHERE, NOWHERE, NOWHERE]);
+pub(crate) const NOTHING: Found = (0, None, 0, [NOWHERE, NOWHERE, NOWHERE, NOWHERE]);
 
 // A store over a file, and the pass that has all parts of it.
 pub(crate) type Open<I, D> = (Store<I, D, OverFile>, Pass<SharedBook<I, D, OverFile>>);

@@ -1,16 +1,20 @@
 //! Stores over two files that go over from one to the other while they are called.
 ghost use Rattle.store_client.specs.Caller.{Keeps};
 
-use crate::files::{FIRST_TWO, FIRST_TWO_AND_FOURTH, expect_in};
-use crate::logs::{ANEW, EMPTY, FILLED, FILLED_AND_ON, GONE_ON, disk_of, disk_with, expect_bytes};
+use crate::files::{FIRST_TWO, FIRST_TWO_AND_FOURTH, NOTHING, expect_in};
+use crate::logs::{
+    ANEW, EMPTY, FILLED, FILLED_AND_ON, GONE_ON, disk_of, disk_with, expect_bytes, failing_disk,
+};
+use crate::rotations::expect_after_crashes;
 use disk_mem::{DiskCall, Fail, MemDisk};
 use disk_trait::LogDisk;
 use flat_index::FlatIndex;
 use index_layer::Index;
 use pisrakun::{
-    AtSync, CallFault, Client, ClosedPair, FileStore, KdTrie, MemoryStore, NotRotatedOver,
-    ObjectStore, OpenedPair, OpenedRotating, OpenedStore, OverFile, Point, PutReply, RotateCause,
-    RotatingStore, Rotation, Start, StayCause, SyncCause, Which, Work, let_rotate, open_store,
+    AtSync, Batch, CallFault, Client, ClosedPair, FileStore, KdTrie, MOST_CELLS, MemoryStore,
+    MoveReply, NotAdded, NotRotatedOver, ObjectStore, OpenedPair, OpenedRotating, OpenedStore,
+    OverFile, Point, PutReply, RotateCause, RotatingStore, Rotation, Stamped, Start, StayCause,
+    SyncCause, Which, Work, let_rotate, open_store,
 };
 use std::alloc::Global;
 use std::process::Abort;
@@ -27,6 +31,27 @@ fn open<I: Index, D: LogDisk, R: Wait + Abort>(
     two: D,
 ) -> Pair<I, D> {
     let opened = Pair::<I, D>::open_pair(rt, alloc, one, "one.log", two, "two.log", 4);
+    let Ok(opened) = opened else {
+        rt.panic("neither file is opened")
+    };
+    let OpenedRotating {
+        store,
+        which: _,
+        found: _,
+    } = opened;
+    store
+}
+
+// The same, and its records wait for a sync.
+fn open_waiting<I: Index, D: LogDisk, R: Wait + Abort>(
+    rt: &R,
+    alloc: Global,
+    one: D,
+    two: D,
+) -> RotatingStore<I, D, AtSync> {
+    let opened = RotatingStore::<I, D, AtSync>::open_pair(
+        rt, alloc, one, "one.log", two, "two.log", 4,
+    );
     let Ok(opened) = opened else {
         rt.panic("neither file is opened")
     };
@@ -122,26 +147,25 @@ fn a_store_without_a_second_file_says_so(rt: HostRuntime) {
     says_so::<FlatIndex, MemDisk, _>(&rt, alloc, one);
 }
 
-// Why a rotation fails, what the next put is told, why the close may lack records, and both drives.
-type Failed<D> = (
-    Result<Rotation, NotRotatedOver>,
-    Result<PutReply, CallFault>,
-    Option<SyncCause>,
-    D,
-    D,
-);
+// What a put was told, why the close may lack records, and both drives.
+type Failed<D> = (Result<PutReply, CallFault>, Option<SyncCause>, D, D);
 
-fn failed<I: Index, D: LogDisk, R: Wait + Abort>(
+// A rotation that fails: by hand, for this reason, or by the first call of a session, as the log has more than three
+// records. That call is refused, and so is the next one.
+fn failed<I: Index, D: LogDisk, O: Start, R: Wait + Abort>(
     rt: &R,
-    alloc: Global,
-    one: D,
-    two: D,
+    mut store: RotatingStore<I, D, O>,
+    by_hand: Option<NotRotatedOver>,
 ) -> Failed<D> {
-    let mut store = filled::<I, D, R>(rt, alloc, one, two);
-    let rotated = store.rotate_above(rt, 0);
-    let put = store.put(rt, 4, FOURTH, 30);
+    fill(rt, &mut store);
+    match by_hand {
+        Some(cause) => assert_same!(rt; store.rotate_above(rt, 0), Err(cause)),
+        None => store.set_most_records(rt, 3),
+    }
+    let put = store.session(9).put(rt, 4, FOURTH, 30);
+    assert_same!(rt; store.put(rt, 4, FOURTH, 30), put);
     let (lost, disk, spare) = drives(rt, store.close());
-    (rotated, put, lost, disk, spare)
+    (put, lost, disk, spare)
 }
 
 // The writes and syncs of a rotation on the second drive. Before it a write and two syncs created and opened its log,
@@ -155,22 +179,23 @@ const ON_SPARE: &[(DiskCall, u64, Which, u64)] = &[
     (DiskCall::Sync, 5, Which::Second, 2),
 ];
 
-fn stops<R: Wait + Abort>(rt: &R, alloc: Global, failing: Fail, wanted: (Which, u64)) {
+fn stops<R: Wait + Abort>(
+    rt: &R,
+    alloc: Global,
+    failing: Fail,
+    by_hand: Option<NotRotatedOver>,
+    wanted: (Which, u64),
+) {
     let one = disk_with(rt, alloc, &[]);
     let two = disk_of(rt, alloc, &[], &[failing]);
-    let (rotated, put, lost, one, two) = failed::<FlatIndex, MemDisk, R>(rt, alloc, one, two);
-    assert_same!(rt; rotated, Err(NotRotatedOver::SpareFailed));
+    let store = open::<FlatIndex, MemDisk, R>(rt, alloc, one, two);
+    let (put, lost, one, two) = failed(rt, store, by_hand);
     assert_same!(rt; put, Err(CallFault::Closed { cell: 4 }));
     assert_same!(rt; lost, Some(SyncCause::Closed { cell: 4 }));
     expect_bytes(rt, alloc, &one, FILLED);
     let (which, records) = wanted;
-    expect_in(
-        rt,
-        alloc,
-        one,
-        two,
-        (which, (2, Some(20), records, FIRST_TWO)),
-    );
+    let found = (2, Some(20), records, FIRST_TWO);
+    expect_in(rt, alloc, one, two, (which, found));
 }
 
 #[test]
@@ -180,28 +205,63 @@ fn a_second_drive_that_fails_stops_the_store(rt: HostRuntime) {
             call: *call,
             number: *number,
         };
-        stops(&rt, rt.alloc(), failing, (*which, *records));
+        let (by_hand, wanted) = (Some(NotRotatedOver::SpareFailed), (*which, *records));
+        stops(&rt, rt.alloc(), failing, by_hand, wanted);
+        stops(&rt, rt.alloc(), failing, None, wanted);
     }
+}
+
+fn stops_in_its_second_file<R: Wait + Abort>(
+    rt: &R,
+    alloc: Global,
+    failing: Fail,
+    by_hand: Option<NotRotatedOver>,
+) {
+    let one = disk_of(rt, alloc, &[], &[failing]);
+    let two = disk_with(rt, alloc, &[]);
+    let store = open::<FlatIndex, MemDisk, R>(rt, alloc, one, two);
+    let (put, lost, two, one) = failed(rt, store, by_hand);
+    assert_same!(rt; put, Err(CallFault::Closed { cell: 2 }));
+    assert_same!(rt; lost, Some(SyncCause::Closed { cell: 2 }));
+    expect_bytes(rt, alloc, &two, ANEW);
+    let found = (2, Some(20), 2, FIRST_TWO);
+    expect_in(rt, alloc, one, two, (Which::Second, found));
 }
 
 #[test]
 fn a_first_drive_that_fails_stops_the_store(rt: HostRuntime) {
-    let alloc = rt.alloc();
     for (call, number) in ON_FIRST {
         let failing = Fail {
             call: *call,
             number: *number,
         };
-        let one = disk_of(&rt, alloc, &[], &[failing]);
-        let two = disk_with(&rt, alloc, &[]);
-        let (rotated, put, lost, two, one) = failed::<FlatIndex, MemDisk, _>(&rt, alloc, one, two);
-        assert_same!(&rt; rotated, Err(NotRotatedOver::FirstFailed));
-        assert_same!(&rt; put, Err(CallFault::Closed { cell: 2 }));
-        assert_same!(&rt; lost, Some(SyncCause::Closed { cell: 2 }));
-        expect_bytes(&rt, alloc, &two, ANEW);
-        let found = (2, Some(20), 2, FIRST_TWO);
-        expect_in(&rt, alloc, one, two, (Which::Second, found));
+        let by_hand = Some(NotRotatedOver::FirstFailed);
+        stops_in_its_second_file(&rt, rt.alloc(), failing, by_hand);
+        stops_in_its_second_file(&rt, rt.alloc(), failing, None);
     }
+}
+
+// The first write creates the log, and the second one is that of the records that waited.
+const SYNC_FAILS: &[Fail] = &[Fail {
+    call: DiskCall::Write,
+    number: 2,
+}];
+
+fn stops_unsynced<R: Wait + Abort>(rt: &R, alloc: Global, by_hand: Option<NotRotatedOver>) {
+    let one = failing_disk(rt, alloc, &[], SYNC_FAILS);
+    let two = disk_with(rt, alloc, &[]);
+    let store = open_waiting::<FlatIndex, MemDisk, R>(rt, alloc, one, two);
+    let (put, lost, one, two) = failed(rt, store, by_hand);
+    assert_same!(rt; put, Err(CallFault::Closed { cell: 0 }));
+    assert_same!(rt; lost, Some(SyncCause::Closed { cell: 0 }));
+    expect_bytes(rt, alloc, &two, EMPTY);
+    expect_in(rt, alloc, one, two, (Which::First, NOTHING));
+}
+
+#[test]
+fn a_first_drive_that_fails_before_the_fresh_log_stops_the_store(rt: HostRuntime) {
+    stops_unsynced(&rt, rt.alloc(), Some(NotRotatedOver::Unsynced));
+    stops_unsynced(&rt, rt.alloc(), None);
 }
 
 // The calls that empty the first log: see `rotations`.
@@ -262,29 +322,170 @@ fn a_second_file_in_use_is_left_alone(rt: HostRuntime) {
     assert_same!(&rt; two.moments(), 0);
 }
 
-// A store whose records wait. The fresh log has all objects, though no record of theirs was written to the first file.
-fn waits_and_goes_over<I: Index, D: LogDisk, R: Wait + Abort>(
+// Where the first object is after so many moves.
+fn after_moves(moves: u64) -> Stamped {
+    let x = 3_u32.saturating_add((moves % 1_000) as u32);
+    Stamped {
+        at: Point { x, y: 5 },
+        moment: moves.saturating_add(10),
+    }
+}
+
+// So many moves of the first object, after these. Returns how many were answered as by a plain list.
+fn move_on<I: Index, D: LogDisk, O: Start, R: Wait>(
+    rt: &R,
+    store: &mut ObjectStore<I, D, O>,
+    moves: u64,
+    count: u64,
+) -> u64 {
+    let mut good = 0u64;
+    for number in moves..moves.saturating_add(count) {
+        let now = after_moves(number.saturating_add(1));
+        let told = store.move_to(rt, 1, now.at, now.moment);
+        let is_good = told == Ok(MoveReply::From(after_moves(number)));
+        good = good.saturating_add(u64::from(is_good));
+    }
+    good
+}
+
+// The same as a batch.
+fn moves_from(alloc: Global, moves: u64, count: u64) -> Result<Batch, NotAdded> {
+    let mut batch = Batch::new(alloc);
+    for number in moves..moves.saturating_add(count) {
+        let now = after_moves(number.saturating_add(1));
+        batch.move_to(1, now.at, now.moment)?;
+    }
+    Ok(batch)
+}
+
+// Executes a batch. Returns the place of its last call.
+fn apply<I: Index, D: LogDisk, O: Start, R: Wait + Abort>(
+    rt: &R,
+    store: &mut ObjectStore<I, D, O>,
+    batch: Result<Batch, NotAdded>,
+) -> Result<u64, CallFault> {
+    let batch = batch.ok().expect(rt, "no batch is made");
+    Ok(store.apply(rt, &batch)?.place)
+}
+
+// How many records the log has.
+fn records_of<I: Index, D: LogDisk, O: Start, R: Wait>(
+    rt: &R,
+    store: &mut ObjectStore<I, D, O>,
+) -> u64 {
+    let room = store.room(rt).records.unwrap_or(0);
+    MOST_CELLS.saturating_sub(room)
+}
+
+// A store whose log may have 64 records. Its rows 256 and 512 look. The fresh log has two records. Row 256 is that of a
+// move. The first batch has the rows up to 399, and the second one those up to 519.
+fn goes_over_by_itself<I: Index, D: LogDisk, R: Wait + Abort>(
     rt: &R,
     alloc: Global,
     one: D,
     two: D,
 ) -> (D, D) {
-    let opened = RotatingStore::<I, D, AtSync>::open_pair(
-        rt, alloc, one, "one.log", two, "two.log", 4,
+    let mut store = filled::<I, D, R>(rt, alloc, one, two);
+    store.set_most_records(rt, 64);
+    assert_same!(rt; move_on(rt, &mut store, 0, 252), 252);
+    assert_same!(rt; records_of(rt, &mut store), 256);
+    assert_same!(rt; move_on(rt, &mut store, 252, 44), 44);
+    assert_same!(rt; (store.place(), records_of(rt, &mut store)), (300, 46));
+    let told = apply(rt, &mut store, moves_from(alloc, 296, 100));
+    assert_same!(rt; (told, records_of(rt, &mut store)), (Ok(400), 146));
+    let told = apply(rt, &mut store, moves_from(alloc, 396, 120));
+    assert_same!(rt; (told, records_of(rt, &mut store)), (Ok(520), 122));
+    assert_same!(rt; store.find(rt, 1), Ok(Some(after_moves(516))));
+    let (lost, disk, spare) = drives(rt, store.close());
+    assert_same!(rt; lost, None);
+    (disk, spare)
+}
+
+#[test]
+fn a_store_goes_over_by_itself(rt: HostRuntime) {
+    let alloc = rt.alloc();
+    let (one, two) = (large_disk(&rt, alloc), large_disk(&rt, alloc));
+    let (one, two) = goes_over_by_itself::<FlatIndex, MemDisk, _>(&rt, alloc, one, two);
+    assert_same!(&rt; one.bytes().len(), 17 + 122 * 32);
+    expect_bytes(&rt, alloc, &two, EMPTY);
+}
+
+// A batch of 256 finds, one of which looks. It writes no record.
+fn finds(alloc: Global) -> Result<Batch, NotAdded> {
+    let mut batch = Batch::new(alloc);
+    for _ in 0..256u32 {
+        batch.find(1)?;
+    }
+    Ok(batch)
+}
+
+// A store whose log may have 64 records, with a second file in use. The first batch finds 104 records and tries to let
+// the store go over, which is refused. The next two find at most eight more, and don't try. The last one finds nine
+// more and tries. Then the second drive fails.
+fn tries_again<I: Index, D: LogDisk, R: Wait + Abort>(
+    rt: &R,
+    alloc: Global,
+    one: D,
+    two: D,
+) -> (D, D) {
+    let mut store = filled_beside::<I, D, R>(rt, alloc, one, two);
+    store.set_most_records(rt, 64);
+    assert_same!(rt; move_on(rt, &mut store, 0, 100), 100);
+    assert_same!(rt; apply(rt, &mut store, finds(alloc)), Ok(360));
+    assert_same!(rt; apply(rt, &mut store, finds(alloc)), Ok(616));
+    assert_same!(rt; move_on(rt, &mut store, 100, 8), 8);
+    assert_same!(rt; apply(rt, &mut store, finds(alloc)), Ok(880));
+    assert_same!(rt; move_on(rt, &mut store, 108, 1), 1);
+    let closed = CallFault::Closed { cell: 113 };
+    assert_same!(rt; apply(rt, &mut store, finds(alloc)), Err(closed));
+    let (lost, disk, spare) = drives(rt, store.close());
+    assert_same!(rt; lost, Some(SyncCause::Closed { cell: 113 }));
+    (disk, spare)
+}
+
+// The drive fails when its length is asked for again.
+const LEN_FAILS: &[Fail] = &[Fail {
+    call: DiskCall::Len,
+    number: 2,
+}];
+
+#[test]
+fn a_store_that_stays_tries_again_after_an_eighth(rt: HostRuntime) {
+    let alloc = rt.alloc();
+    let (one, two) = (
+        large_disk(&rt, alloc),
+        failing_disk(&rt, alloc, GONE_ON, LEN_FAILS),
     );
-    let Ok(
-        OpenedRotating {
-            mut store,
-            which: _,
-            found: _,
-        },
-    ) = opened
-    else {
-        rt.panic("neither file is opened")
-    };
+    let (one, two) = tries_again::<FlatIndex, MemDisk, _>(&rt, alloc, one, two);
+    assert_same!(&rt; one.bytes().len(), 17 + 113 * 32);
+    expect_bytes(&rt, alloc, &two, GONE_ON);
+}
+
+// A store goes over with one record in its file, and three that wait. They are written to the first file before the
+// fresh log is begun. Otherwise both files would have records, and different objects, until the first log is emptied.
+fn waits_and_goes_over<I: Index, D: LogDisk, R: Wait + Abort>(
+    rt: &R,
+    alloc: Global,
+    one: D,
+    two: D,
+) -> RotatingStore<I, D, AtSync> {
+    let mut store = open_waiting::<I, D, R>(rt, alloc, one, two);
+    let _ = store.put(rt, 1, Point { x: 3, y: 5 }, 10);
+    assert_same!(rt; store.sync(rt), Ok(1));
     fill(rt, &mut store);
     assert_same!(rt; store.rotate_above(rt, 0), Ok(Rotation::Done));
-    assert_same!(rt; store.sync(rt), Ok(4));
+    assert_same!(rt; store.sync(rt), Ok(5));
+    store
+}
+
+// The same with a put after it.
+fn waits_and_goes_on<I: Index, D: LogDisk, R: Wait + Abort>(
+    rt: &R,
+    alloc: Global,
+    one: D,
+    two: D,
+) -> (D, D) {
+    let mut store = waits_and_goes_over::<I, D, R>(rt, alloc, one, two);
     assert_same!(rt; store.put(rt, 4, FOURTH, 30), Ok(PutReply::Done));
     let (lost, disk, spare) = drives(rt, store.close());
     assert_same!(rt; lost, None);
@@ -295,10 +496,36 @@ fn waits_and_goes_over<I: Index, D: LogDisk, R: Wait + Abort>(
 fn records_that_wait_are_in_the_fresh_log(rt: HostRuntime) {
     let alloc = rt.alloc();
     let (one, two) = (disk_with(&rt, alloc, &[]), disk_with(&rt, alloc, &[]));
-    let (two, one) = waits_and_goes_over::<FlatIndex, MemDisk, _>(&rt, alloc, one, two);
+    let (two, one) = waits_and_goes_on::<FlatIndex, MemDisk, _>(&rt, alloc, one, two);
     expect_bytes(&rt, alloc, &two, GONE_ON);
     expect_bytes(&rt, alloc, &one, EMPTY);
-    assert_same!(&rt; one.moments(), 3);
+}
+
+// How many writes, syncs and cuts created and opened a log, those of the first drive when the records that waited are
+// written and after its log is emptied, and those of the second drive in all. An append takes four, and so does the
+// emptying.
+const OPENED: u64 = 3;
+
+const WRITTEN: u64 = 11;
+
+const EMPTIED: u64 = 15;
+
+const IN_ALL: u64 = 9;
+
+// A crash at each moment of one drive after the records that waited are written, while no call reaches the other drive.
+#[test]
+fn a_crash_leaves_the_records_that_waited(rt: HostRuntime) {
+    let alloc = rt.alloc();
+    let (one, two) = (disk_with(&rt, alloc, &[]), disk_with(&rt, alloc, &[]));
+    let store = waits_and_goes_over::<FlatIndex, MemDisk, _>(&rt, alloc, one, two);
+    let (_, two, one) = drives(&rt, store.close());
+    assert_same!(&rt; [one.moments(), two.moments()], [EMPTIED, IN_ALL]);
+    for moment in OPENED..10 {
+        expect_after_crashes(&rt, alloc, (&one, WRITTEN), (&two, moment));
+    }
+    for moment in WRITTEN..16 {
+        expect_after_crashes(&rt, alloc, (&one, moment), (&two, IN_ALL));
+    }
 }
 
 // How many objects a worker moves, and how often it reports each.
@@ -309,13 +536,23 @@ const ROUNDS: u64 = 24;
 // How many reports a worker makes.
 const REPORTS: u64 = 384;
 
-// A worker that reports the positions of objects of its own, and lets the store go over to its second file where the
-// log has more than 400 records.
+// A worker that reports the positions of objects of its own, and lets the store go over to its second file if the log
+// has more than so many records.
 #[derive(Drop)]
 struct Mover {
     first: u64,
+    records: u64,
     good: u64,
     rotations: u64,
+}
+
+fn mover_from(first: u64, records: u64) -> Mover {
+    Mover {
+        first,
+        records,
+        good: 0,
+        rotations: 0,
+    }
 }
 
 // Where an object is in a round.
@@ -335,7 +572,7 @@ impl<R: Wait> Work<R> for Mover {
             let (id, round) = (self.first.saturating_add(call % OBJECTS), call / OBJECTS);
             let told = client.report(rt, id, spot(id, round), round);
             self.good = self.good.saturating_add(u64::from(told.is_ok()));
-            let rotated = client.rotate_above(rt, 400);
+            let rotated = client.rotate_above(rt, self.records);
             let is_done = rotated == Ok(Rotation::Done);
             self.rotations = self.rotations.saturating_add(u64::from(is_done));
         }
@@ -360,11 +597,7 @@ fn moves_at_once<I: Index + Send, D: LogDisk + Send, R: Threads + Wait + Sync + 
     two: D,
 ) -> (u64, u64, D, D) {
     let mut store = open::<I, D, R>(rt, alloc, one, two);
-    let movers = [100, 200, 300, 400].map(|first| Mover {
-        first,
-        good: 0,
-        rotations: 0,
-    });
+    let movers = [100, 200, 300, 400].map(|first| mover_from(first, 400));
     let movers = Vec::from_array(alloc, movers).expect(rt, "no memory");
     let Ok(movers) = store.work_all(rt, 1, movers) else {
         rt.panic("no team works")
@@ -376,7 +609,11 @@ fn moves_at_once<I: Index + Send, D: LogDisk + Send, R: Threads + Wait + Sync + 
 }
 
 // How many of a mover's objects are where its last round left them.
-fn found_of<I: Index, D: LogDisk, R: Wait>(rt: &R, store: &mut FileStore<I, D>, first: u64) -> u64 {
+fn found_of<I: Index, D: LogDisk, O: Start, R: Wait>(
+    rt: &R,
+    store: &mut ObjectStore<I, D, O>,
+    first: u64,
+) -> u64 {
     let mut found = 0u64;
     for number in 0..OBJECTS {
         let id = first.saturating_add(number);
@@ -420,4 +657,35 @@ fn clients_let_a_store_go_over_while_others_call(rt: HostRuntime) {
     assert_same!(rt; good, 1_536);
     assert_is!(rt; rotations > 2);
     finds_all::<KdTrie, MemDisk, _>(&rt, alloc, one, two);
+}
+
+// A mover that lets no store go over by hand, at a store whose log may have 64 records. Its client's row 256 looks.
+// After that the log has fewer records than the mover makes reports.
+fn goes_over_in_a_call<I: Index + Send, D: LogDisk + Send, R: Threads + Wait + Sync + Abort>(
+    rt: &R,
+    alloc: Global,
+    one: D,
+    two: D,
+) -> ClosedPair<D> {
+    let mut store = open::<I, D, R>(rt, alloc, one, two);
+    store.set_most_records(rt, 64);
+    let movers = Vec::from_array(alloc, [mover_from(100, u64::MAX)]).expect(rt, "no memory");
+    let Ok(movers) = store.work_all(rt, 1, movers) else {
+        rt.panic("no team works")
+    };
+    assert_same!(rt; sums_of(movers.as_slice()), (REPORTS, 0));
+    assert_is!(rt; records_of(rt, &mut store) < REPORTS);
+    assert_same!(rt; found_of(rt, &mut store, 100), OBJECTS);
+    store.close()
+}
+
+#[test]
+fn a_client_lets_its_store_go_over(rt: HostRuntime) {
+    let alloc = rt.alloc();
+    let (one, two) = (large_disk(&rt, alloc), large_disk(&rt, alloc));
+    let closed = goes_over_in_a_call::<KdTrie, MemDisk, _>(&rt, alloc, one, two);
+    let (lost, two, one) = drives(&rt, closed);
+    assert_same!(&rt; lost, None);
+    expect_bytes(&rt, alloc, &one, EMPTY);
+    assert_is!(&rt; two.bytes().len() > 17);
 }

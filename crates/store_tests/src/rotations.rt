@@ -160,7 +160,7 @@ fn expect_after_crash<R: Wait + Abort>(rt: &R, alloc: Global, first: MemDisk, se
 }
 
 // The same for each crash at a moment of one drive and one of the other.
-fn expect_after_crashes<R: Wait + Abort>(
+pub(crate) fn expect_after_crashes<R: Wait + Abort>(
     rt: &R,
     alloc: Global,
     one: (&MemDisk, u64),
